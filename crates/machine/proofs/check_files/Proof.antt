@@ -1,0 +1,58 @@
+-- `check_files` meets its contract: each return is at the test that decides, and those before it did not hold.
+-- Assumes nothing.
+use borrow.Author.Needs.{needs}
+use borrow.Author.Tests.{eq-eqb, ne-eqb, not-true, not-false}
+use mathlib.Core.Path.{_≡_, sym, _∙_, ap}
+use mathlib.Core.Bool.{true}
+use lib.ListN.{length}
+use denote.Ref.{now}
+use lib.Dec.{eqb}
+use Rattle.machine.specs.Size.{isLegal, vectorFile}
+use Rattle.machine.proofs.Checks.{legal-most}
+use Rattle.machine.proofs.check_files.Statement.{statement}
+use Rattle.machine.proofs.check_files.Tie as tie
+
+-- past the first test the length is legal
+legal : (c : tie.Else1) → isLegal (c .before .before .before .before .args .k) ≡ true
+legal c = sym (c .before .is-legal .ensures) ∙ not-false _ (c .if1 .left)
+
+-- past the second test the vector file has its size
+vectors-fit : (c : tie.Else2) → length (now (c .before .before .before .before .before .before .args .z)) ≡ vectorFile (c .before .before .before .before .before .before .args .k)
+vectors-fit c = c .if2 .left ∙ c .before .vector-file .ensures
+
+is-legal-requires : tie.Need-is-legal-requires
+is-legal-requires c κs = search needs
+
+returns : tie.Need-returns
+returns c = rw (sym (c .before .is-legal .ensures) ∙ not-true _ (c .if1 .taken))
+
+vector-file-requires : tie.Need-vector-file-requires
+vector-file-requires c κs = legal-most _ (legal c)
+
+returns-2 : tie.Need-returns-2
+returns-2 c =
+    rw (legal (c .before .before), ne-eqb _ _ (λ e. c .if2 .taken (e ∙ sym (c .before .vector-file .ensures))))
+
+predicate-file-requires : tie.Need-predicate-file-requires
+predicate-file-requires c κs = legal-most _ (legal (c .before .before))
+
+returns-3 : tie.Need-returns-3
+returns-3 c =
+    rw (
+      legal (c .before .before .before .before),
+      eq-eqb _ _ (vectors-fit (c .before .before)),
+      ne-eqb _ _ (λ e. c .if3 .taken (e ∙ sym (c .before .predicate-file .ensures))),
+    )
+
+returns-4 : tie.Need-returns-4
+returns-4 c =
+    rw (
+      legal (c .before .before .before .before),
+      eq-eqb _ _ (vectors-fit (c .before .before)),
+      eq-eqb _ _ (c .if3 .left ∙ c .before .predicate-file .ensures),
+    )
+
+pub check-files-spec : {M : Type 1} → statement M
+check-files-spec =
+    tie.close
+    (tie.spec is-legal-requires returns vector-file-requires returns-2 predicate-file-requires returns-3 returns-4)

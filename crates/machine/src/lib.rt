@@ -1,0 +1,135 @@
+// The machine's sizes, each named once with the length it belongs to, and the checks of what a caller lends.
+ghost use mathlib.Core.Path.{_≡_};
+ghost use mathlib.Core.List.{[], _∷_};
+ghost use Prim.Native.Nat.{_≤_, _<_};
+ghost use lib.ListN.{length};
+ghost use Rattle.machine.specs.Size.{mostLength, vectors, predicates, isLegal, vectorBytes, predicateBytes, vectorFile, predicateFile, vectorAt, predicateAt};
+ghost use Rattle.machine.specs.Refusal.{refused, lengthTest, fileTest, programTest};
+
+pub mod refusal;
+
+// A vector length: k units of sixteen bytes.
+pub struct Length {
+    pub k: usize,
+}
+
+impl Length {
+    pub const LEAST: usize = 1;
+
+    pub const MOST: usize = 16;
+
+    pub const VECTORS: usize = 32;
+
+    pub const PREDICATES: usize = 16;
+
+    pub const GOVERNING: usize = 8;
+
+    pub const VECTOR_UNIT: usize = 16;
+
+    pub const PREDICATE_UNIT: usize = 2;
+
+    pub const WORD_BYTES: usize = 4;
+
+    pub const MOST_WORDS: usize = 256;
+
+    // Whether k is a length that the machine may have.
+    pub fn is_legal(self) -> bool
+        ensures { λ r. ⌜ r ≡ isLegal (self .k) ⌝ }
+    {
+        let k = self.k;
+        if k < Length::LEAST {
+            return false;
+        }
+        k <= Length::MOST
+    }
+
+    // The bytes of a vector register.
+    pub fn vector_bytes(self) -> usize
+        requires { ⌜ self .k ≤ mostLength ⌝ }
+        ensures { λ r. ⌜ r ≡ vectorBytes (self .k) ⌝ }
+    {
+        Length::VECTOR_UNIT * self.k
+    }
+
+    // The bytes of a predicate register.
+    pub fn predicate_bytes(self) -> usize
+        requires { ⌜ self .k ≤ mostLength ⌝ }
+        ensures { λ r. ⌜ r ≡ predicateBytes (self .k) ⌝ }
+    {
+        Length::PREDICATE_UNIT * self.k
+    }
+
+    // The bytes of the vector file.
+    pub fn vector_file(self) -> usize
+        requires { ⌜ self .k ≤ mostLength ⌝ }
+        ensures { λ r. ⌜ r ≡ vectorFile (self .k) ⌝ }
+    {
+        Length::VECTORS * self.vector_bytes()
+    }
+
+    // The bytes of the predicate file.
+    pub fn predicate_file(self) -> usize
+        requires { ⌜ self .k ≤ mostLength ⌝ }
+        ensures { λ r. ⌜ r ≡ predicateFile (self .k) ⌝ }
+    {
+        Length::PREDICATES * self.predicate_bytes()
+    }
+
+    // Where vector register r starts in the vector file.
+    pub fn vector_at(self, r: usize) -> usize
+        requires { ⌜ (self .k ≤ mostLength) × (r < vectors) ⌝ }
+        ensures { λ a. ⌜ a ≡ vectorAt (self .k) r ⌝ }
+    {
+        r * self.vector_bytes()
+    }
+
+    // Where predicate register r starts in the predicate file.
+    pub fn predicate_at(self, r: usize) -> usize
+        requires { ⌜ (self .k ≤ mostLength) × (r < predicates) ⌝ }
+        ensures { λ a. ⌜ a ≡ predicateAt (self .k) r ⌝ }
+    {
+        r * self.predicate_bytes()
+    }
+}
+
+// The refusal of a length: LENGTH or DONE.
+pub fn check_length(k: usize) -> u8
+    ensures { λ r. ⌜ r ≡ refused (lengthTest k ∷ []) ⌝ }
+{
+    let length = Length { k };
+    if length.is_legal() {
+        refusal::DONE
+    } else {
+        refusal::LENGTH
+    }
+}
+
+// The refusal of a length with both files: LENGTH, FILE or DONE.
+pub fn check_files(k: usize, z: &[u8], p: &[u8]) -> u8
+    ensures { λ r. ⌜ r ≡ refused (lengthTest k ∷ fileTest k (length (now (z .entry))) (length (now (p .entry))) ∷ []) ⌝ }
+{
+    let length = Length { k };
+    if !length.is_legal() {
+        return refusal::LENGTH;
+    }
+    if z.len() != length.vector_file() {
+        return refusal::FILE;
+    }
+    if p.len() != length.predicate_file() {
+        return refusal::FILE;
+    }
+    refusal::DONE
+}
+
+// The refusal of a program's bytes: PROGRAM or DONE.
+pub fn check_program(program: &[u8]) -> u8
+    ensures { λ r. ⌜ r ≡ refused (programTest (length (now (program .entry))) ∷ []) ⌝ }
+{
+    if program.len() % Length::WORD_BYTES != 0 {
+        return refusal::PROGRAM;
+    }
+    if Length::WORD_BYTES * Length::MOST_WORDS < program.len() {
+        return refusal::PROGRAM;
+    }
+    refusal::DONE
+}
