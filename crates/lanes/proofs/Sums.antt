@@ -1,0 +1,114 @@
+-- Sums of lanes of D digits: modulo 2^E they are the low digits of the exact sum; read at their sign they are the exact sum where
+-- there are few enough lanes; and nothing that does not count matters.
+-- Assumes nothing.
+use Prim.Native.Nat.{ℕ, zero, suc, _+_, _*_, _%_, _^_, _≤_, _<_}
+use mathlib.Core.Path.{_≡_, refl, sym, _∙_, ap, ap₂}
+use mathlib.Core.Bool.{Bool, true, false, cond}
+use mathlib.Core.List.{List, [], _∷_, map}
+use native.Mathlib.Nat.{suc-mul, zero-mod, zero-mul}
+use native.Mathlib.Omega.{arith}
+use lib.ListN.{length}
+use lib.Pow.{pow-pos}
+use lib.IntN.{ℤ, pos, negsuc, subℕ, _+ℤ_, natAbs}
+use borrow.Author.Tests.{lt-ltb, leb-true, leb-false}
+use Rattle.lanes.specs.Integer.{isNegative, integer, residue, FitsAt}
+use Rattle.lanes.specs.Lane.{lane, active}
+use Rattle.lanes.specs.Sum.{Lane, counted, exactSum, wrappedSum, governed}
+use Rattle.lanes.proofs.Residues.{abs-sum, residue-sum, integer-residue}
+
+-- a sum of the lanes' low digits, rounded after each, is the low digits of the exact sum
+pub wrapped-sum : (signed : Bool) (D E : ℕ) (ls : List Lane) → wrappedSum E (map (λ (l : Lane). residue E (counted signed D l)) ls) ≡ residue E (exactSum signed D ls)
+wrapped-sum signed D E [] = sym (zero-mod (2 ^ E))
+wrapped-sum signed D E (l ∷ ls) =
+    ap (λ (n : ℕ). (residue E (counted signed D l) + n) % 2 ^ E) (wrapped-sum signed D E ls)
+    ∙ sym (residue-sum E (counted signed D l) (exactSum signed D ls))
+
+-- an integer that lies within B: at most B, and where it is signed at most half of B from zero
+abbrev pub Within : Bool → ℕ → ℤ → Type 0
+Within true B z = 2 * natAbs z ≤ B
+Within false B (pos n) = n ≤ B
+Within false B (negsuc n) = ⊥
+
+within-zero : (signed : Bool) (B : ℕ) → Within signed B (pos 0)
+within-zero true B = omega arith
+within-zero false B = omega arith
+
+within-sum : (signed : Bool) (A B : ℕ) (x y : ℤ) → Within signed A x → Within signed B y → Within signed (A + B) (x +ℤ y)
+within-sum true A B x y a b = omega (arith, abs-sum x y)
+within-sum false A B (pos m) (pos n) a b = omega arith
+within-sum false A B (pos m) (negsuc n) a b = absurd b
+within-sum false A B (negsuc m) y a b = absurd a
+
+within-integer : (signed : Bool) (D n : ℕ) → n < 2 ^ D → Within signed (2 ^ D) (integer signed D n)
+within-integer false D n h = omega arith
+within-integer true D n h = go (isNegative D n) (leb-true (2 ^ D) (2 * n)) (leb-false (2 ^ D) (2 * n))
+  where
+    go : (t : Bool) → (t ≡ true → 2 ^ D ≤ 2 * n) → (t ≡ false → 2 * n < 2 ^ D) → Within true (2 ^ D) (cond t (subℕ n (2 ^ D)) (pos n))
+    go true f g = rw (lt-ltb n (2 ^ D) h) (omega (arith, f refl))
+    go false f g = omega (arith, g refl)
+
+within-fits : (signed : Bool) (B E : ℕ) (z : ℤ) → Within signed B z → B < 2 ^ E → FitsAt signed E z
+within-fits true B E (pos n) w h = omega arith
+within-fits true B E (negsuc n) w h = omega arith
+within-fits false B E (pos n) w h = omega arith
+within-fits false B E (negsuc n) w h = absurd w
+
+-- every lane holds a number of D digits
+abbrev pub Digits : ℕ → List Lane → Type 0
+Digits D [] = Unit {0}
+Digits D (l ∷ ls) = (l .1 < 2 ^ D) × Digits D ls
+
+within-counted : (signed : Bool) (D : ℕ) (l : Lane) → l .1 < 2 ^ D → Within signed (2 ^ D) (counted signed D l)
+within-counted signed D l h = go (l .0)
+  where
+    go : (t : Bool) → Within signed (2 ^ D) (cond t (integer signed D (l .1)) (pos 0))
+    go true = within-integer signed D (l .1) h
+    go false = within-zero signed (2 ^ D)
+
+-- the exact sum of some lanes lies within as many times 2^D
+within-exact : (signed : Bool) (D : ℕ) (ls : List Lane) → Digits D ls → Within signed (length ls * 2 ^ D) (exactSum signed D ls)
+within-exact signed D [] h = within-zero signed (0 * 2 ^ D)
+within-exact signed D (l ∷ ls) h =
+    rw (suc-mul (length ls) (2 ^ D), native.Mathlib.Nat.add-comm (length ls * 2 ^ D) (2 ^ D))
+    (within-sum signed (2 ^ D) (length ls * 2 ^ D) (counted signed D l) (exactSum signed D ls) (within-counted signed D l (h .0)) (within-exact signed D ls (h .1)))
+
+-- where there are few enough lanes, the low E digits of their sum, read at their sign, are the exact sum
+pub sum-is-exact : (signed : Bool) (D E : ℕ) (ls : List Lane) → Digits D ls → length ls * 2 ^ D < 2 ^ E → integer signed E (residue E (exactSum signed D ls)) ≡ exactSum signed D ls
+sum-is-exact signed D E ls d h =
+    integer-residue signed E (exactSum signed D ls)
+    (within-fits signed (length ls * 2 ^ D) E (exactSum signed D ls) (within-exact signed D ls d) h)
+
+-- two lists of lanes with the same governing bits that hold the same numbers where they are active
+abbrev pub SameActive : List Lane → List Lane → Type 0
+SameActive [] [] = Unit {0}
+SameActive [] (m ∷ ms) = ⊥
+SameActive (l ∷ ls) [] = ⊥
+SameActive (l ∷ ls) (m ∷ ms) = (l .0 ≡ m .0) × (l .0 ≡ true → l .1 ≡ m .1) × SameActive ls ms
+
+same-counted : (signed : Bool) (D : ℕ) (l m : Lane) → l .0 ≡ m .0 → (l .0 ≡ true → l .1 ≡ m .1) → counted signed D l ≡ counted signed D m
+same-counted signed D l m e f = go (l .0) (m .0) e f
+  where
+    go : (s t : Bool) → s ≡ t → (s ≡ true → l .1 ≡ m .1) → cond s (integer signed D (l .1)) (pos 0) ≡ cond t (integer signed D (m .1)) (pos 0)
+    go true true e f = ap (integer signed D) (f refl)
+    go true false e f = let z : _≡_ {A = ℕ} 0 1 = cc in absurd (omega arith)
+    go false true e f = let z : _≡_ {A = ℕ} 0 1 = cc in absurd (omega arith)
+    go false false e f = refl
+
+-- what does not count does not matter: sums of such lists are the same
+pub same-sum : (signed : Bool) (D : ℕ) (ls ms : List Lane) → SameActive ls ms → exactSum signed D ls ≡ exactSum signed D ms
+same-sum signed D [] [] h = refl
+same-sum signed D [] (m ∷ ms) h = absurd h
+same-sum signed D (l ∷ ls) [] h = absurd h
+same-sum signed D (l ∷ ls) (m ∷ ms) h = ap₂ _+ℤ_ (same-counted signed D l m (h .0) (h .1)) (same-sum signed D ls ms (h .2))
+
+-- two predicates that agree at the bits e·w, and two registers that agree at the active lanes, have such lists
+pub same-governed : (w e n : ℕ) (p q r t : List ℕ)
+    → ((i : ℕ) → e ≤ i → i < e + n → active w i p ≡ active w i q)
+    → ((i : ℕ) → e ≤ i → i < e + n → active w i p ≡ true → lane w i r ≡ lane w i t)
+    → SameActive (governed w e n p r) (governed w e n q t)
+same-governed w e zero p q r t f g = tt
+same-governed w e (suc n) p q r t f g = (
+  f e (omega arith) (omega arith),
+  g e (omega arith) (omega arith),
+  same-governed w (suc e) n p q r t (λ i h k. f i (omega arith) (omega arith)) (λ i h k. g i (omega arith) (omega arith)),
+)

@@ -1,0 +1,4 @@
+pub mod Bytes
+pub mod Lane
+pub mod Integer
+pub mod Sum
