@@ -1,3 +1,4 @@
 pub mod Bytes
 pub mod Residues
 pub mod Sums
+pub mod Written

@@ -4,16 +4,16 @@
 use Prim.Native.Nat.{ℕ, zero, suc, _+_, _*_, _%_, _^_, _≤_, _<_}
 use mathlib.Core.Path.{_≡_, refl, sym, _∙_, ap, ap₂}
 use mathlib.Core.Bool.{Bool, true, false, cond}
-use mathlib.Core.List.{List, [], _∷_, map}
-use native.Mathlib.Nat.{suc-mul, zero-mod, zero-mul}
+use mathlib.Core.List.{List, [], _∷_, _++_, map}
+use native.Mathlib.Nat.{add-comm, suc-mul, zero-mod, zero-add, add-zero, suc-add, add-suc}
 use native.Mathlib.Omega.{arith}
 use lib.ListN.{length}
-use lib.Pow.{pow-pos}
-use lib.IntN.{ℤ, pos, negsuc, subℕ, _+ℤ_, natAbs}
+use lib.IntN.{ℤ, pos, negsuc, subℕ, _+ℤ_, natAbs, +ℤ-idl, +ℤ-assoc}
 use borrow.Author.Tests.{lt-ltb, leb-true, leb-false}
 use Rattle.lanes.specs.Integer.{isNegative, integer, residue, FitsAt}
-use Rattle.lanes.specs.Lane.{lane, active}
-use Rattle.lanes.specs.Sum.{Lane, counted, exactSum, wrappedSum, governed}
+use Rattle.lanes.specs.Lane.{lane, active, bitsOf}
+use Rattle.lanes.specs.Sum.{Lane, counted, exactSum, wrappedSum, governed, ungoverned}
+use Rattle.lanes.proofs.Bytes.{AreBytes, lane-lt}
 use Rattle.lanes.proofs.Residues.{abs-sum, residue-sum, integer-residue}
 
 -- a sum of the lanes' low digits, rounded after each, is the low digits of the exact sum
@@ -69,7 +69,7 @@ within-counted signed D l h = go (l .0)
 within-exact : (signed : Bool) (D : ℕ) (ls : List Lane) → Digits D ls → Within signed (length ls * 2 ^ D) (exactSum signed D ls)
 within-exact signed D [] h = within-zero signed (0 * 2 ^ D)
 within-exact signed D (l ∷ ls) h =
-    rw (suc-mul (length ls) (2 ^ D), native.Mathlib.Nat.add-comm (length ls * 2 ^ D) (2 ^ D))
+    rw (suc-mul (length ls) (2 ^ D), add-comm (length ls * 2 ^ D) (2 ^ D))
     (within-sum signed (2 ^ D) (length ls * 2 ^ D) (counted signed D l) (exactSum signed D ls) (within-counted signed D l (h .0)) (within-exact signed D ls (h .1)))
 
 -- where there are few enough lanes, the low E digits of their sum, read at their sign, are the exact sum
@@ -112,3 +112,42 @@ same-governed w e (suc n) p q r t f g = (
   g e (omega arith) (omega arith),
   same-governed w (suc e) n p q r t (λ i h k. f i (omega arith) (omega arith)) (λ i h k. g i (omega arith) (omega arith)),
 )
+
+-- as many lanes as were asked for
+pub length-governed : (w e n : ℕ) (p r : List ℕ) → length (governed w e n p r) ≡ n
+length-governed w e zero p r = refl
+length-governed w e (suc n) p r = ap suc (length-governed w (suc e) n p r)
+
+-- lanes of w bytes hold numbers of 8w digits
+pub governed-digits : (w e n : ℕ) (p r : List ℕ) → AreBytes r → Digits (bitsOf w) (governed w e n p r)
+governed-digits w e zero p r h = tt
+governed-digits w e (suc n) p r h = (lane-lt w e r h, governed-digits w (suc e) n p r h)
+
+-- a range of lanes is its two parts, one after the other
+pub governed-split : (w e m n : ℕ) (p r : List ℕ) → governed w e (m + n) p r ≡ governed w e m p r ++ governed w (e + m) n p r
+governed-split w e zero n p r = ap₂ (λ (k i : ℕ). governed w i k p r) (zero-add n) (sym (add-zero e))
+governed-split w e (suc m) n p r =
+    ap (λ (k : ℕ). governed w e k p r) (suc-add m n)
+    ∙ ap (λ (ls : List Lane). (active w e p, lane w e r) ∷ ls) (governed-split w (suc e) m n p r)
+    ∙ ap (λ (i : ℕ). governed w e (suc m) p r ++ governed w i n p r) (suc-add e m ∙ sym (add-suc e m))
+
+-- the exact sum of two lists is the sum of their sums
+pub exact-append : (signed : Bool) (D : ℕ) (ls ms : List Lane) → exactSum signed D (ls ++ ms) ≡ exactSum signed D ls +ℤ exactSum signed D ms
+exact-append signed D [] ms = sym (+ℤ-idl (exactSum signed D ms))
+exact-append signed D (l ∷ ls) ms =
+    ap (λ (z : ℤ). counted signed D l +ℤ z) (exact-append signed D ls ms)
+    ∙ sym (+ℤ-assoc (counted signed D l) (exactSum signed D ls) (exactSum signed D ms))
+
+-- the sum of a range is the sum of its two parts' sums
+pub split-sum : (signed : Bool) (D w e m n : ℕ) (p r : List ℕ)
+    → exactSum signed D (governed w e (m + n) p r) ≡ exactSum signed D (governed w e m p r) +ℤ exactSum signed D (governed w (e + m) n p r)
+split-sum signed D w e m n p r =
+    ap (exactSum signed D) (governed-split w e m n p r)
+    ∙ exact-append signed D (governed w e m p r) (governed w (e + m) n p r)
+
+-- where every bit is set, all lanes count
+pub all-active : (w e n : ℕ) (p r : List ℕ) → ((i : ℕ) → e ≤ i → i < e + n → active w i p ≡ true) → governed w e n p r ≡ ungoverned w e n r
+all-active w e zero p r f = refl
+all-active w e (suc n) p r f =
+    ap₂ (λ (t : Bool) (ls : List Lane). (t, lane w e r) ∷ ls) (f e (omega arith) (omega arith))
+    (all-active w (suc e) n p r (λ i h k. f i (omega arith) (omega arith)))

@@ -1,8 +1,8 @@
 -- Lanes of a register, and the predicate bits that govern them. A lane of w bytes with number e starts at byte e·w; lane 0 is the
 -- least significant.
-use Prim.Native.Nat.{ℕ, _+_, _*_, _/_, _%_, _^_}
+use Prim.Native.Nat.{ℕ, zero, suc, _+_, _*_, _/_, _%_, _^_}
 use mathlib.Core.Bool.{Bool}
-use mathlib.Core.List.{List, _++_}
+use mathlib.Core.List.{List, [], _++_}
 use lib.Dec.{eqb}
 use lib.ListN.{take, drop, getD}
 use Rattle.lanes.specs.Bytes.{number, bytesOf}
@@ -30,3 +30,8 @@ bitAt i predicate = getD predicate (i / 8) 0 / 2 ^ (i % 8) % 2
 -- ActivePredicateElement: lane e is active when bit e·w is set
 abbrev pub active : ℕ → ℕ → List ℕ → Bool
 active w e predicate = eqb (bitAt (e * w) predicate) 1
+
+-- n lanes of w bytes side by side, from lane e on: lane i holds the low bytes of f i
+abbrev pub fromLanes : ℕ → ℕ → ℕ → (ℕ → ℕ) → List ℕ
+fromLanes w e zero f = []
+fromLanes w e (suc n) f = bytesOf w (f e) ++ fromLanes w (suc e) n f

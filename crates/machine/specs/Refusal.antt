@@ -1,8 +1,9 @@
 -- The refusals: their numbers, the order in which they are tested, and the tests that several calls share.
-use Prim.Native.Nat.{ℕ}
+use Prim.Native.Nat.{ℕ, zero, suc}
 use mathlib.Core.Bool.{Bool, true, false, not, cond}
 use mathlib.Core.List.{List, [], _∷_}
 use lib.Dec.{eqb}
+use Rattle.machine.specs.declared.Answer.{Answer}
 use Rattle.machine.specs.Size.{both, isLegal, vectorFile, predicateFile, isProgram}
 
 -- done, and the fourteen refusals
@@ -85,3 +86,8 @@ fileTest k z p = (FILE, not (both (eqb z (vectorFile k)) (eqb p (predicateFile k
 -- the program's size is not whole words, or they are too many
 abbrev pub programTest : ℕ → Test
 programTest n = (PROGRAM, not (isProgram n))
+
+-- a call's answer: the refusal of its tests with 0, or DONE with the value
+abbrev pub answer : ℕ → ℕ → Answer
+answer zero v = record { number = DONE; value = v }
+answer (suc n) v = record { number = suc n; value = 0 }

@@ -8,6 +8,12 @@ ghost use Rattle.machine.specs.Refusal.{refused, lengthTest, fileTest, p
 
 pub mod refusal;
 
+// What a call with a value answers: the number, and the value, which is 0 with a refusal.
+pub struct Answer {
+    pub number: u8,
+    pub value: u64,
+}
+
 // A vector length: k units of sixteen bytes.
 pub struct Length {
     pub k: usize,
