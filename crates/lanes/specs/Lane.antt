@@ -7,6 +7,10 @@ use lib.Dec.{eqb}
 use lib.ListN.{take, drop, getD}
 use Rattle.lanes.specs.Bytes.{number, bytesOf}
 
+-- the sizes of a lane: bytes, half words, words and double words
+abbrev pub sizes : ℕ
+sizes = 4
+
 -- the bytes of a lane for each size
 abbrev pub widthOf : ℕ → ℕ
 widthOf size = 2 ^ size

@@ -2,12 +2,12 @@
 ghost use mathlib.Core.Path.{_≡_};
 ghost use Prim.Native.Nat.{_+_, _*_, _^_, _≤_, _<_};
 ghost use lib.ListN.{length};
-ghost use Rattle.lanes.specs.Lane.{lane as laneAt, active, withLane, widthOf, bitsOf};
+ghost use Rattle.lanes.specs.Lane.{sizes, lane as laneAt, active, withLane, widthOf, bitsOf};
 ghost use Rattle.lanes.specs.Integer.{integer, residue};
 
 // The bytes of a lane, for each size.
 pub fn width_of(size: usize) -> usize
-    requires { ⌜ size ≤ 3 ⌝ }
+    requires { ⌜ size < sizes ⌝ }
     ensures { λ r. ⌜ r ≡ widthOf size ⌝ }
 {
     1usize << size

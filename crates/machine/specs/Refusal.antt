@@ -87,6 +87,10 @@ fileTest k z p = (FILE, not (both (eqb z (vectorFile k)) (eqb p (predicateFile k
 abbrev pub programTest : ℕ → Test
 programTest n = (PROGRAM, not (isProgram n))
 
+-- a number is out of its range
+abbrev pub rangeTest : Bool → Test
+rangeTest outside = (RANGE, outside)
+
 -- a call's answer: the refusal of its tests with 0, or DONE with the value
 abbrev pub answer : ℕ → ℕ → Answer
 answer zero v = record { number = DONE; value = v }

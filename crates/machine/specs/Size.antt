@@ -1,7 +1,9 @@
 -- The machine's sizes. A length k stands for vectors of 16k bytes; each number is named here once.
 use Prim.Native.Nat.{ℕ, _*_, _%_}
 use mathlib.Core.Bool.{Bool, true, false}
+use mathlib.Core.List.{List}
 use lib.Dec.{leb, eqb}
+use lib.ListN.{take, drop}
 
 -- both of two tests
 abbrev pub both : Bool → Bool → Bool
@@ -63,3 +65,10 @@ mostWords = 256
 -- bytes that are whole words, not too many
 abbrev pub isProgram : ℕ → Bool
 isProgram n = both (eqb (n % wordBytes) 0) (leb n (wordBytes * mostWords))
+
+-- the bytes of register r
+abbrev pub vectorOf : ℕ → ℕ → List ℕ → List ℕ
+vectorOf k r z = take (vectorBytes k) (drop (vectorAt k r) z)
+
+abbrev pub predicateOf : ℕ → ℕ → List ℕ → List ℕ
+predicateOf k r p = take (predicateBytes k) (drop (predicateAt k r) p)
