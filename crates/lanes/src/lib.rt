@@ -1,7 +1,7 @@
 // Lanes of a register: a lane's number, its integer at 64 bits, the predicate bit that governs it, and writing a lane.
 ghost use mathlib.Core.Path.{_≡_};
 ghost use Prim.Native.Nat.{_+_, _*_, _^_, _≤_, _<_};
-ghost use lib.ListN.{length};
+ghost use lib.ListN.{length, replicate};
 ghost use Rattle.lanes.specs.Lane.{sizes, lane as laneAt, active, withLane, widthOf, bitsOf};
 ghost use Rattle.lanes.specs.Integer.{integer, residue};
 
@@ -65,6 +65,17 @@ pub fn put_lane(register: &mut [u8], w: usize, e: usize, n: u64)
     while i < w {
         register[at + i] = (rest % 256) as u8;
         rest = rest / 256;
+        i += 1;
+    }
+}
+
+// Sets every byte to zero.
+pub fn clear(bytes: &mut [u8])
+    ensures { λ _. ⌜ now (bytes .exit) ≡ replicate (length (now (bytes .entry))) 0 ⌝ }
+{
+    let mut i = 0;
+    while i < bytes.len() {
+        bytes[i] = 0;
         i += 1;
     }
 }

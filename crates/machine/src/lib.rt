@@ -34,6 +34,8 @@ impl Length {
 
     pub const PREDICATE_UNIT: usize = 2;
 
+    pub const MOST_BYTES: usize = Length::MOST * Length::VECTOR_UNIT;
+
     pub const WORD_BYTES: usize = 4;
 
     pub const MOST_WORDS: usize = 256;
