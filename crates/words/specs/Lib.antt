@@ -1,0 +1,4 @@
+pub mod Digits
+pub mod Table
+pub mod Decode
+pub mod Encode
