@@ -166,7 +166,7 @@ fn allows_size(form: Form, q: usize, size: usize) -> bool
 }
 
 // Whether a form names a governing predicate.
-fn is_governed(form: Form) -> bool
+pub fn is_governed(form: Form) -> bool
     ensures { λ r. ⌜ r ≡ isGoverned form ⌝ }
 {
     match form {
@@ -179,7 +179,7 @@ fn is_governed(form: Form) -> bool
 }
 
 // Whether it names a second source.
-fn has_second(form: Form) -> bool
+pub fn has_second(form: Form) -> bool
     ensures { λ r. ⌜ r ≡ hasSecond form ⌝ }
 {
     match form {
@@ -192,7 +192,7 @@ fn has_second(form: Form) -> bool
 }
 
 // Whether it has Q.
-fn has_q(form: Form) -> bool
+pub fn has_q(form: Form) -> bool
     ensures { λ r. ⌜ r ≡ hasQ form ⌝ }
 {
     match form {
