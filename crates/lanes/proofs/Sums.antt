@@ -33,13 +33,13 @@ within-zero : (signed : Bool) (B : ℕ) → Within signed B (pos 0)
 within-zero true B = omega arith
 within-zero false B = omega arith
 
-within-sum : (signed : Bool) (A B : ℕ) (x y : ℤ) → Within signed A x → Within signed B y → Within signed (A + B) (x +ℤ y)
+pub within-sum : (signed : Bool) (A B : ℕ) (x y : ℤ) → Within signed A x → Within signed B y → Within signed (A + B) (x +ℤ y)
 within-sum true A B x y a b = omega (arith, abs-sum x y)
 within-sum false A B (pos m) (pos n) a b = omega arith
 within-sum false A B (pos m) (negsuc n) a b = absurd b
 within-sum false A B (negsuc m) y a b = absurd a
 
-within-integer : (signed : Bool) (D n : ℕ) → n < 2 ^ D → Within signed (2 ^ D) (integer signed D n)
+pub within-integer : (signed : Bool) (D n : ℕ) → n < 2 ^ D → Within signed (2 ^ D) (integer signed D n)
 within-integer false D n h = omega arith
 within-integer true D n h = go (isNegative D n) (leb-true (2 ^ D) (2 * n)) (leb-false (2 ^ D) (2 * n))
   where
@@ -47,7 +47,7 @@ within-integer true D n h = go (isNegative D n) (leb-true (2 ^ D) (2 * n)) (leb-
     go true f g = rw (lt-ltb n (2 ^ D) h) (omega (arith, f refl))
     go false f g = omega (arith, g refl)
 
-within-fits : (signed : Bool) (B E : ℕ) (z : ℤ) → Within signed B z → B < 2 ^ E → FitsAt signed E z
+pub within-fits : (signed : Bool) (B E : ℕ) (z : ℤ) → Within signed B z → B < 2 ^ E → FitsAt signed E z
 within-fits true B E (pos n) w h = omega arith
 within-fits true B E (negsuc n) w h = omega arith
 within-fits false B E (pos n) w h = omega arith
@@ -72,11 +72,13 @@ within-exact signed D (l ∷ ls) h =
     rw (suc-mul (length ls) (2 ^ D), add-comm (length ls * 2 ^ D) (2 ^ D))
     (within-sum signed (2 ^ D) (length ls * 2 ^ D) (counted signed D l) (exactSum signed D ls) (within-counted signed D l (h .0)) (within-exact signed D ls (h .1)))
 
--- where there are few enough lanes, the low E digits of their sum, read at their sign, are the exact sum
+-- where there are few enough lanes, E digits can stand for their exact sum
+pub sum-fits : (signed : Bool) (D E : ℕ) (ls : List Lane) → Digits D ls → length ls * 2 ^ D < 2 ^ E → FitsAt signed E (exactSum signed D ls)
+sum-fits signed D E ls d h = within-fits signed (length ls * 2 ^ D) E (exactSum signed D ls) (within-exact signed D ls d) h
+
+-- and the low E digits of the sum, read at their sign, are the exact sum
 pub sum-is-exact : (signed : Bool) (D E : ℕ) (ls : List Lane) → Digits D ls → length ls * 2 ^ D < 2 ^ E → integer signed E (residue E (exactSum signed D ls)) ≡ exactSum signed D ls
-sum-is-exact signed D E ls d h =
-    integer-residue signed E (exactSum signed D ls)
-    (within-fits signed (length ls * 2 ^ D) E (exactSum signed D ls) (within-exact signed D ls d) h)
+sum-is-exact signed D E ls d h = integer-residue signed E (exactSum signed D ls) (sum-fits signed D E ls d h)
 
 -- two lists of lanes with the same governing bits that hold the same numbers where they are active
 abbrev pub SameActive : List Lane → List Lane → Type 0
@@ -122,6 +124,15 @@ length-governed w e (suc n) p r = ap suc (length-governed w (suc e) n p r)
 pub governed-digits : (w e n : ℕ) (p r : List ℕ) → AreBytes r → Digits (bitsOf w) (governed w e n p r)
 governed-digits w e zero p r h = tt
 governed-digits w e (suc n) p r h = (lane-lt w e r h, governed-digits w (suc e) n p r h)
+
+-- the same of lanes that all count
+pub length-ungoverned : (w e n : ℕ) (r : List ℕ) → length (ungoverned w e n r) ≡ n
+length-ungoverned w e zero r = refl
+length-ungoverned w e (suc n) r = ap suc (length-ungoverned w (suc e) n r)
+
+pub ungoverned-digits : (w e n : ℕ) (r : List ℕ) → AreBytes r → Digits (bitsOf w) (ungoverned w e n r)
+ungoverned-digits w e zero r h = tt
+ungoverned-digits w e (suc n) r h = (lane-lt w e r h, ungoverned-digits w (suc e) n r h)
 
 -- a range of lanes is its two parts, one after the other
 pub governed-split : (w e m n : ℕ) (p r : List ℕ) → governed w e (m + n) p r ≡ governed w e m p r ++ governed w (e + m) n p r

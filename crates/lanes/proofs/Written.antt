@@ -4,9 +4,9 @@
 use Prim.Native.Nat.{ℕ, zero, suc, _+_, _*_, _-_, _/_, _%_, _^_, _≤_, _<_}
 use mathlib.Core.Path.{_≡_, refl, sym, _∙_, ap, ap₂}
 use mathlib.Core.List.{List, [], _∷_, _++_, append-assoc, append-nil}
-use native.Mathlib.Nat.{add-zero, zero-mul, suc-mul, mul-zero, mul-suc, pow-suc, mod-add-div', mod-eq-of-lt, mod-mod-of-dvd, dvd-mul-left, add-suc, suc-add, mul-comm, mod-lt, add-comm, zero-add, add-mul, div-lt-iff-lt-mul, le-dest, mod-one, not-suc-le-zero, le-of-suc-le-suc}
+use native.Mathlib.Nat.{add-zero, zero-mul, suc-mul, mul-zero, mul-suc, pow-suc, mod-add-div', mod-eq-of-lt, mod-mod-of-dvd, dvd-mul-left, add-suc, suc-add, mul-comm, mod-lt, add-comm, zero-add, add-mul, div-lt-iff-lt-mul, le-dest, mod-one, not-suc-le-zero, le-of-suc-le-suc, sub-zero, zero-sub, suc-sub-suc}
 use native.Mathlib.Omega.{arith}
-use lib.ListN.{length, take, drop, length-append, length-drop}
+use lib.ListN.{length, take, drop, replicate, length-append}
 use lib.Pow.{pow-add, pow-pos, field}
 use lib.Arith.{digits-mod}
 use lib.Seq.{take-at, drop-at, drop-append-add, drop-drop, take-append-add}
@@ -131,3 +131,9 @@ read-lane w e (suc n) (suc i) f rest h =
       drop-at (bytesOf w (f e)) (fromLanes w (suc e) n f ++ rest) w (length-bytes w (f e)),
     )
     (read-lane w (suc e) n i f rest (le-of-suc-le-suc h) ∙ ap (λ (k : ℕ). f k % 2 ^ bitsOf w) (omega arith))
+
+-- a run of one value without its first elements
+pub drop-replicate : (m n a : ℕ) → drop m (replicate n a) ≡ replicate (n - m) a
+drop-replicate zero n a = ap (λ (k : ℕ). replicate k a) (sym (sub-zero n))
+drop-replicate (suc m) zero a = ap (λ (k : ℕ). replicate k a) (sym (zero-sub (suc m)))
+drop-replicate (suc m) (suc n) a = drop-replicate m n a ∙ ap (λ (k : ℕ). replicate k a) (sym (suc-sub-suc n m))
