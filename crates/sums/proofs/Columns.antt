@@ -1,0 +1,117 @@
+-- Column sums: adding a panel's rows lane by lane is adding the register's active lanes segment by segment.
+-- Assumes nothing.
+use Prim.Native.Nat.{ℕ, zero, suc, _+_, _*_, _-_, _/_, _%_, _^_, _≤_, _<_}
+use mathlib.Core.Path.{_≡_, refl, sym, _∙_, ap, ap₂}
+use mathlib.Core.Bool.{Bool, true, false, cond}
+use mathlib.Core.List.{List, [], _∷_, _++_, append-nil}
+use native.Mathlib.Nat.{zero-add, suc-add, add-zero, sub-zero, zero-sub, suc-sub-suc, add-assoc, mod-add-mod, add-mod-mod}
+use native.Mathlib.Numerals.{add-one}
+use native.Mathlib.Omega.{arith}
+use lib.ListN.{length, take, drop, getD, replicate}
+use lib.Seq.{take-suc}
+use lib.IntN.{pos}
+use Rattle.machine.specs.Size.{segmentBytes, mostLength}
+use Rattle.lanes.specs.Bytes.{number, bytesOf}
+use Rattle.lanes.specs.Lane.{lane, active, fromLanes, bitsOf}
+use Rattle.lanes.specs.Integer.{residue}
+use Rattle.lanes.specs.Sum.{counted, exactSum}
+use Rattle.lanes.proofs.Residues.{residue-sum}
+use Rattle.lanes.proofs.Written.{read-lane, bytes-residue}
+use Rattle.sums.specs.Panel.{perSegment, WholeSegments, panelLane, panelRow, panelFrom, panelOf, column, columnSum, placeSum, rowsSum}
+use Rattle.sums.proofs.Panels.{noRow, panel-row, panel-past}
+
+-- the sum of rows that follow others
+place-append : (w e : ℕ) (rows more : List (List ℕ)) → placeSum w e (rows ++ more) ≡ placeSum w e rows + placeSum w e more
+place-append w e [] more = sym (zero-add (placeSum w e more))
+place-append w e (row ∷ rows) more = rw (place-append w e rows more) (sym (add-assoc (lane w e row) (placeSum w e rows) (placeSum w e more)))
+
+-- one row more, modulo M
+pub place-next : (w e M s : ℕ) (rows : List (List ℕ)) → s < length rows
+    → placeSum w e (take (s + 1) rows) % M ≡ (placeSum w e (take s rows) % M + lane w e (getD rows s [])) % M
+place-next w e M s rows h =
+    ap (λ (n : ℕ). n % M)
+    (ap (placeSum w e) (ap (λ (n : ℕ). take n rows) (add-one s) ∙ take-suc rows s [] h)
+    ∙ place-append w e (take s rows) (getD rows s [] ∷ [])
+    ∙ ap (λ (n : ℕ). placeSum w e (take s rows) + n) (add-zero (lane w e (getD rows s []))))
+    ∙ sym (mod-add-mod (placeSum w e (take s rows)) M (lane w e (getD rows s [])))
+
+-- the low bytes of a sum that was added modulo 2^64
+pub place-bytes : (w e : ℕ) → w ≤ 8 → (rows : List (List ℕ)) → bytesOf w (placeSum w e rows % 2 ^ 64) ≡ bytesOf w (rowsSum w rows e)
+place-bytes w e h rows = sym (bytes-residue w h (pos (placeSum w e rows)))
+
+-- a lane of zeros is zero
+number-zeros : (w n : ℕ) → number (take w (replicate n 0)) ≡ 0
+number-zeros zero n = refl
+number-zeros (suc w) zero = refl
+number-zeros (suc w) (suc n) = rw (number-zeros w n)
+
+drop-zeros : (j n : ℕ) → drop {A = ℕ} j (replicate n 0) ≡ replicate (n - j) 0
+drop-zeros zero n = rw (sub-zero n)
+drop-zeros (suc j) zero = rw (zero-sub (suc j))
+drop-zeros (suc j) (suc n) = rw (suc-sub-suc n j) (drop-zeros j n)
+
+place-zeros : (w e n : ℕ) → placeSum w e (replicate n noRow) ≡ 0
+place-zeros w e zero = refl
+place-zeros w e (suc n) =
+    rw (place-zeros w e n, add-zero (lane w e noRow))
+    (ap (λ (l : List ℕ). number (take w l)) (drop-zeros (e * w) segmentBytes) ∙ number-zeros w (segmentBytes - e * w))
+
+-- lanes that hold the same, side by side
+pub same-lanes : (w e n : ℕ) (f g : ℕ → ℕ) → ((i : ℕ) → e ≤ i → i < e + n → f i ≡ g i) → fromLanes w e n f ≡ fromLanes w e n g
+same-lanes w e zero f g h = refl
+same-lanes w e (suc n) f g h =
+    ap₂ _++_ (ap (bytesOf w) (h e (omega arith) (omega arith)))
+    (same-lanes w (suc e) n f g (λ i l k. h i (omega arith) (omega arith)))
+
+-- the low digits of what a lane counts
+counted-residue : (D : ℕ) (t : Bool) (n : ℕ) → residue D (counted false D (t, n)) ≡ cond t n 0 % 2 ^ D
+counted-residue D true n = refl
+counted-residue D false n = refl
+
+module _ (w : ℕ) (predicate register : List ℕ) where
+  -- lane e of a panel's row
+  row-reads : (s e : ℕ) → e < perSegment w → lane w e (panelRow w predicate register s) ≡ panelLane w predicate register s e % 2 ^ bitsOf w
+  row-reads s e h =
+      ap (lane w e) (sym (append-nil (panelRow w predicate register s)))
+      ∙ read-lane w 0 (perSegment w) e (panelLane w predicate register s) [] h
+      ∙ ap (λ (i : ℕ). panelLane w predicate register s i % 2 ^ bitsOf w) (zero-add e)
+
+  -- rows from segment s on, m of them the register's, add up to the column of m lanes
+  rows-column : (e : ℕ) → e < perSegment w → (s m j : ℕ) → (s + m) * segmentBytes ≡ length register
+      → placeSum w e (panelFrom w predicate register s (m + j)) % 2 ^ bitsOf w
+      ≡ residue (bitsOf w) (exactSum false (bitsOf w) (column w e s m predicate register))
+  rows-column e h s zero j k =
+      ap (λ (n : ℕ). placeSum w e (panelFrom w predicate register s n) % 2 ^ bitsOf w) (zero-add j)
+      ∙ ap (λ (rows : List (List ℕ)). placeSum w e rows % 2 ^ bitsOf w) (panel-past w predicate register s j (omega arith))
+      ∙ ap (λ (n : ℕ). n % 2 ^ bitsOf w) (place-zeros w e j)
+  rows-column e h s (suc m) j k =
+      ap (λ (rows : List (List ℕ)). placeSum w e rows % M) (ap (panelFrom w predicate register s) (suc-add m j) ∙ panel-row w predicate register s (m + j) (omega arith))
+      ∙ ap (λ (n : ℕ). (n + rest) % M) (row-reads s e h)
+      ∙ sym (add-mod-mod (panelLane w predicate register s e % M) rest M)
+      ∙ ap₂ (λ (a b : ℕ). (a + b) % M)
+      (sym (counted-residue (bitsOf w) (active w (s * perSegment w + e) predicate) (lane w (s * perSegment w + e) register)))
+      (rows-column e h (suc s) m j (omega arith))
+      ∙ sym (residue-sum (bitsOf w) (counted false (bitsOf w) (active w (s * perSegment w + e) predicate, lane w (s * perSegment w + e) register)) (exactSum false (bitsOf w) (column w e (suc s) m predicate register)))
+    where
+      M : ℕ
+      M = 2 ^ bitsOf w
+
+      rest : ℕ
+      rest = placeSum w e (panelFrom w predicate register (suc s) (m + j))
+
+  -- the sum at a place of the panel's rows is that of the register's column
+  pub place-is-column : (e : ℕ) → e < perSegment w → WholeSegments register → rowsSum w (panelOf w predicate register) e ≡ columnSum w predicate register e
+  unfolding panelOf
+  place-is-column e h whole =
+      ap (λ (n : ℕ). placeSum w e (panelFrom w predicate register 0 n) % 2 ^ bitsOf w) all
+      ∙ rows-column e h 0 (length register / segmentBytes) (mostLength - length register / segmentBytes) (omega arith)
+    where
+      all : mostLength ≡ length register / segmentBytes + (mostLength - length register / segmentBytes)
+      all = omega arith
+
+  -- addqv adds the panel's rows: their column sums are the sums of the register's active lanes at each place of a segment
+  pub addqv-is-column-sums : WholeSegments register
+      → fromLanes w 0 (perSegment w) (rowsSum w (panelOf w predicate register)) ≡ fromLanes w 0 (perSegment w) (columnSum w predicate register)
+  addqv-is-column-sums whole =
+      same-lanes w 0 (perSegment w) (rowsSum w (panelOf w predicate register)) (columnSum w predicate register)
+      (λ e l h. place-is-column e (omega arith) whole)

@@ -1,0 +1,41 @@
+-- `lane_value` meets its contract: an inactive lane counts as zero, and what an active one counts is its extension.
+-- Assumes nothing.
+use borrow.Author.Needs.{needs}
+use borrow.Author.Tests.{not-true, not-false}
+use Prim.Native.Nat.{ℕ}
+use mathlib.Core.Path.{sym, _∙_, ap}
+use native.Mathlib.Omega.{arith}
+use denote.Ref.{now}
+use Rattle.lanes.specs.Lane.{bitsOf}
+use Rattle.lanes.specs.Integer.{residue, integer}
+use Rattle.lanes.proofs.Bytes.{lane-lt}
+use Rattle.sums.proofs.lane_value.Statement.{statement}
+use Rattle.sums.proofs.lane_value.Tie as tie
+
+is-active-requires : tie.Need-is-active-requires
+is-active-requires c κs = search needs
+
+returns : tie.Need-returns
+returns c = rw (sym (c .before .is-active .ensures) ∙ not-true _ (c .if1 .taken))
+
+lane-requires : tie.Need-lane-requires
+lane-requires c κs = search needs
+
+extend-requires : tie.Need-extend-requires
+extend-requires c κs =
+    let a = c .before .before .before .before .before .args in (
+      search needs,
+      search needs,
+      rw (c .lane .ensures)
+          (lane-lt (a .w) (a .e) (now (a .register)) (λ i. omega (arith, c .before .before .before .before .shared-slice-known .given i))),
+    )
+
+returns-2 : tie.Need-returns-2
+returns-2 c =
+    let a = c .before .before .before .before .before .before .args in
+    rw (sym (c .before .before .before .is-active .ensures) ∙ not-false _ (c .before .before .if1 .left))
+    (c .extend .ensures ∙ ap (λ (n : ℕ). residue 64 (integer (a .signed) (bitsOf (a .w)) n)) (c .before .lane .ensures))
+
+pub lane-value-spec : {M : Type 1} → statement M
+lane-value-spec =
+    tie.close (tie.spec is-active-requires returns lane-requires extend-requires returns-2)

@@ -1,0 +1,261 @@
+// Sums of a register's lanes: the active lanes in order, a range split at its middle, and the panel of segments with its column sums.
+ghost use mathlib.Core.Path.{_≡_};
+ghost use Prim.Native.Nat.{_+_, _*_, _%_, _^_, _≤_, _<_};
+ghost use lib.ListN.{length, take, drop};
+ghost use Rattle.machine.specs.Size.{segmentBytes, mostLength, vectors, predicates, vectorFile, predicateFile, vectorOf, predicateOf};
+ghost use Rattle.lanes.specs.Lane.{lane as laneAt, active, fromLanes, bitsOf};
+ghost use Rattle.lanes.specs.Integer.{residue};
+ghost use Rattle.lanes.specs.Sum.{counted};
+ghost use Rattle.sums.specs.Sums.{Governs, laneSum};
+ghost use Rattle.sums.specs.Panel.{perSegment, FillsSegment, WholeSegments, panelRow, panelOf, placeSum, rowsSum};
+ghost use Rattle.sums.specs.Calls.{panelRefused, panelAnswer, subtotalRefused, subtotalAnswer};
+use machine::Answer;
+use machine::Length;
+use machine::refusal;
+
+// The sizes of a lane: 0 to 3.
+const SIZES: usize = 4;
+
+// What lane e adds: its number extended to 64 bits if it is active, else 0.
+pub fn lane_value(register: &[u8], predicate: &[u8], w: usize, signed: bool, e: usize) -> u64
+    requires { ⌜ Governs w (now predicate) (now register) × (e * w + w ≤ length (now register)) ⌝ }
+    ensures { λ r. ⌜ r ≡ residue 64 (counted signed (bitsOf w) (active w e (now (predicate .entry)), laneAt w e (now (register .entry)))) ⌝ }
+{
+    if !lanes::is_active(predicate, w, e) {
+        return 0;
+    }
+    lanes::extend(lanes::lane(register, w, e), w, signed)
+}
+
+// The sum of the active lanes below count, lane by lane, modulo 2^64.
+pub fn sum_lanes(register: &[u8], predicate: &[u8], w: usize, signed: bool, count: usize) -> u64
+    requires { ⌜ Governs w (now predicate) (now register) × (count * w ≤ length (now register)) ⌝ }
+    ensures { λ r. ⌜ r ≡ laneSum signed w 0 count (now (predicate .entry)) (now (register .entry)) ⌝ }
+{
+    let mut sum: u64 = 0;
+    let mut e = 0;
+    while e < count {
+        sum = std::num::wrapping_add_u64(sum, lane_value(register, predicate, w, signed, e));
+        e += 1;
+    }
+    sum
+}
+
+// The sum of the active lanes from a up to but without b, modulo 2^64: the range is split at its middle and each half summed the same way.
+pub fn sum_between(
+    register: &[u8],
+    predicate: &[u8],
+    w: usize,
+    signed: bool,
+    a: usize,
+    b: usize,
+) -> u64
+    requires { ⌜ Governs w (now predicate) (now register) × (a ≤ b) × (b * w ≤ length (now register)) ⌝ }
+    ensures { λ r. ⌜ r ≡ laneSum signed w a b (now (predicate .entry)) (now (register .entry)) ⌝ }
+{
+    if a == b {
+        return 0;
+    }
+    if b - a == 1 {
+        return lane_value(register, predicate, w, signed, a);
+    }
+    let middle = a + (b - a) / 2;
+    let low = sum_between(register, predicate, w, signed, a, middle);
+    let high = sum_between(register, predicate, w, signed, middle, b);
+    std::num::wrapping_add_u64(low, high)
+}
+
+// Segment s of a register with its inactive lanes zeroed.
+fn panel_row(register: &[u8], predicate: &[u8], w: usize, s: usize) -> [u8; 16]
+    requires { ⌜ Governs w (now predicate) (now register) × FillsSegment w × (s * segmentBytes + segmentBytes ≤ length (now register)) ⌝ }
+    ensures { λ r. ⌜ r ≡ panelRow w (now (predicate .entry)) (now (register .entry)) s ⌝ }
+{
+    let count = Length::VECTOR_UNIT / w;
+    let first = s * count;
+    let mut row = [0u8; 16];
+    let mut e = 0;
+    while e < count {
+        let n = lane_value(register, predicate, w, false, first + e);
+        lanes::put_lane(&mut row, w, e, n);
+        e += 1;
+    }
+    row
+}
+
+// The panel of a register: row s is segment s, and rows past the register's end are zero.
+pub fn panel_of(register: &[u8], predicate: &[u8], w: usize) -> [[u8; 16]; 16]
+    requires { ⌜ Governs w (now predicate) (now register) × FillsSegment w × WholeSegments (now register) ⌝ }
+    ensures { λ r. ⌜ r ≡ panelOf w (now (predicate .entry)) (now (register .entry)) ⌝ }
+{
+    let count = register.len() / Length::VECTOR_UNIT;
+    let mut rows = [[0u8; 16]; 16];
+    let mut s = 0;
+    while s < count {
+        rows[s] = panel_row(register, predicate, w, s);
+        s += 1;
+    }
+    rows
+}
+
+// The number that lane e of a row holds.
+fn row_lane(row: [u8; 16], w: usize, e: usize) -> u64
+    requires { ⌜ (w ≤ 8) × (e * w + w ≤ segmentBytes) ⌝ }
+    ensures { λ r. ⌜ r ≡ laneAt w e row ⌝ }
+{
+    lanes::lane(&row, w, e)
+}
+
+// The lanes at place e of a panel's rows, added modulo 2^64.
+fn column_sum(rows: [[u8; 16]; 16], w: usize, e: usize) -> u64
+    requires { ⌜ (w ≤ 8) × (e * w + w ≤ segmentBytes) ⌝ }
+    ensures { λ r. ⌜ r ≡ placeSum w e rows % 2 ^ 64 ⌝ }
+{
+    let mut sum: u64 = 0;
+    let mut s = 0;
+    while s < Length::MOST {
+        sum = std::num::wrapping_add_u64(sum, row_lane(rows[s], w, e));
+        s += 1;
+    }
+    sum
+}
+
+// A panel's rows, added lane by lane modulo 2^width.
+pub fn column_sums(rows: [[u8; 16]; 16], w: usize) -> [u8; 16]
+    requires { ⌜ (1 ≤ w) × (w ≤ 8) × FillsSegment w ⌝ }
+    ensures { λ r. ⌜ r ≡ fromLanes w 0 (perSegment w) (rowsSum w rows) ⌝ }
+{
+    let count = Length::VECTOR_UNIT / w;
+    let mut row = [0u8; 16];
+    let mut e = 0;
+    while e < count {
+        let n = column_sum(rows, w, e);
+        lanes::put_lane(&mut row, w, e, n);
+        e += 1;
+    }
+    row
+}
+
+// The bytes of register r, lent on from a file whose registers have so many bytes.
+fn part(file: &[u8], bytes: usize, r: usize) -> &[u8]
+    requires { ⌜ r * bytes + bytes ≤ length (now file) ⌝ }
+    ensures { λ part. ⌜ now part ≡ take bytes (drop (r * bytes) (now (file .entry))) ⌝ }
+{
+    let at = r * bytes;
+    let end = at + bytes;
+    &file[at..end]
+}
+
+// The bytes of vector register r.
+pub fn vector_part(k: usize, z: &[u8], r: usize) -> &[u8]
+    requires { ⌜ (k ≤ mostLength) × (r < vectors) × (length (now z) ≡ vectorFile k) ⌝ }
+    ensures { λ part. ⌜ now part ≡ vectorOf k r (now (z .entry)) ⌝ }
+{
+    let length = Length { k };
+    part(z, length.vector_bytes(), r)
+}
+
+// The bytes of predicate register r.
+pub fn predicate_part(k: usize, p: &[u8], r: usize) -> &[u8]
+    requires { ⌜ (k ≤ mostLength) × (r < predicates) × (length (now p) ≡ predicateFile k) ⌝ }
+    ensures { λ part. ⌜ now part ≡ predicateOf k r (now (p .entry)) ⌝ }
+{
+    let length = Length { k };
+    part(p, length.predicate_bytes(), r)
+}
+
+// The number that a panel is answered with: LENGTH, FILE, RANGE or DONE.
+pub fn panel_refusal(
+    k: usize,
+    z: &[u8],
+    p: &[u8],
+    source: usize,
+    governing: usize,
+    size: usize,
+) -> u8
+    ensures { λ r. ⌜ r ≡ panelRefused k (now (z .entry)) (now (p .entry)) source governing size ⌝ }
+{
+    let refused = machine::check_files(k, z, p);
+    if refused != refusal::DONE {
+        return refused;
+    }
+    if Length::VECTORS <= source {
+        return refusal::RANGE;
+    }
+    if Length::GOVERNING <= governing {
+        return refusal::RANGE;
+    }
+    if SIZES <= size {
+        return refusal::RANGE;
+    }
+    refusal::DONE
+}
+
+// The panel of a source register under a governing predicate; all zeros where it is refused.
+pub fn panel(
+    k: usize,
+    z: &[u8],
+    p: &[u8],
+    source: usize,
+    governing: usize,
+    size: usize,
+) -> [[u8; 16]; 16]
+    ensures { λ r. ⌜ r ≡ panelAnswer k (now (z .entry)) (now (p .entry)) source governing size ⌝ }
+{
+    if panel_refusal(k, z, p, source, governing, size) != refusal::DONE {
+        return [[0u8; 16]; 16];
+    }
+    let register = vector_part(k, z, source);
+    let predicate = predicate_part(k, p, governing);
+    panel_of(register, predicate, lanes::width_of(size))
+}
+
+// The number that a subtotal is answered with: LENGTH, FILE, RANGE or DONE.
+fn subtotal_refusal(
+    k: usize,
+    z: &[u8],
+    p: &[u8],
+    source: usize,
+    governing: usize,
+    size: usize,
+    a: usize,
+    b: usize,
+) -> u8
+    ensures { λ r. ⌜ r ≡ subtotalRefused k (now (z .entry)) (now (p .entry)) source governing size a b ⌝ }
+{
+    let refused = panel_refusal(k, z, p, source, governing, size);
+    if refused != refusal::DONE {
+        return refused;
+    }
+    if b < a {
+        return refusal::RANGE;
+    }
+    let length = Length { k };
+    if length.vector_bytes() / lanes::width_of(size) < b {
+        return refusal::RANGE;
+    }
+    refusal::DONE
+}
+
+// The sum of a source's active lanes from a up to but without b, modulo 2^64; 0 where it is refused.
+pub fn subtotal(
+    k: usize,
+    z: &[u8],
+    p: &[u8],
+    source: usize,
+    governing: usize,
+    size: usize,
+    signed: bool,
+    a: usize,
+    b: usize,
+) -> Answer
+    ensures { λ r. ⌜ r ≡ subtotalAnswer k (now (z .entry)) (now (p .entry)) source governing size signed a b ⌝ }
+{
+    let number = subtotal_refusal(k, z, p, source, governing, size, a, b);
+    if number != refusal::DONE {
+        return Answer { number, value: 0 };
+    }
+    let register = vector_part(k, z, source);
+    let predicate = predicate_part(k, p, governing);
+    let value = sum_between(register, predicate, lanes::width_of(size), signed, a, b);
+    Answer { number, value }
+}
