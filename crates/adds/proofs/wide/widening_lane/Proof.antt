@@ -1,0 +1,21 @@
+-- `widening_lane` meets its contract: the half is the one that the form takes.
+-- Assumes nothing.
+use borrow.Author.Needs.{needs}
+use mathlib.Core.Path.{_≡_}
+use Rattle.adds.proofs.wide.widening_lane.Statement.{statement}
+use Rattle.adds.proofs.wide.widening_lane.Tie as tie
+
+half-sum-requires : tie.Need-half-sum-requires
+half-sum-requires c κs = search needs
+
+half-sum-requires-2 : tie.Need-half-sum-requires-2
+half-sum-requires-2 c κs = search needs
+
+returns : tie.Need-returns
+returns c = rw (c .before .if1 .taken) (c .half-sum .ensures)
+
+returns-2 : tie.Need-returns-2
+returns-2 c = rw (c .before .if1 .left) (c .half-sum2 .ensures)
+
+pub widening-lane-spec : {M : Type 1} → statement M
+widening-lane-spec = tie.close (tie.spec half-sum-requires half-sum-requires-2 returns returns-2)
