@@ -1,0 +1,5 @@
+pub mod Puts
+pub mod Pieces
+pub mod Rows
+pub mod Longest
+pub mod Naming

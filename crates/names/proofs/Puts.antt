@@ -1,0 +1,47 @@
+-- Pieces written one after the other are one piece.
+-- Assumes nothing.
+use mathlib.Core.Path.{_≡_, refl, sym, _∙_, ap}
+use mathlib.Core.List.{List, [], _∷_, _++_}
+use Prim.Native.Nat.{ℕ, suc, _+_, _≤_, _<_}
+use native.Mathlib.Nat.{add-zero, zero-add, add-suc, suc-add}
+use native.Mathlib.Omega.{arith}
+use native.Mathlib.Numerals.{add-one}
+use lib.ListN.{length, length-append, getD, take, set}
+use lib.Seq.{sets, length-sets, sets-eq, take-suc, take-at}
+use Rattle.names.specs.Named.{Put}
+
+sets-append : (l : List ℕ) (i : ℕ) (p q : List ℕ) → sets l i (p ++ q) ≡ sets (sets l i p) (i + length p) q
+sets-append l i [] q = rw add-zero
+sets-append l i (a ∷ p) q = rw (add-suc, ← suc-add) (sets-append _ (suc i) p q)
+
+-- a piece and one after it
+pub put-then : {l m n p q : List ℕ} {at next last : ℕ} → Put l at p m next → Put m next q n last → Put l at (p ++ q) n last
+put-then {l} {m} {n} {p} {q} {at} {next} {last} a b =
+    record {
+      bytes = b .bytes ∙ rw (a .bytes, a .after) (sym (sets-append l at p q));
+      after = b .after ∙ rw (length-append p q) (omega (arith, a .after));
+    }
+
+-- nothing
+pub put-none : (l : List ℕ) (at : ℕ) → Put l at [] l at
+put-none l at = record { bytes = refl; after = sym (add-zero at) }
+
+-- the bytes keep their number
+pub put-length : {l m p : List ℕ} {at next : ℕ} → Put l at p m next → length m ≡ length l
+put-length {l} {m} {p} {at} {next} a = ap length (a .bytes) ∙ length-sets l at p
+
+-- a byte
+pub put-one : (l : List ℕ) (at b : ℕ) → Put l at (b ∷ []) (set l at b) (at + 1)
+put-one l at b = record { bytes = refl; after = refl }
+
+-- one byte more of a piece that is being copied
+pub put-more : {l m : List ℕ} (s : List ℕ) (at j : ℕ) → j < length s → Put l at (take j s) m (at + j)
+    → Put l at (take (j + 1) s) (set m (at + j) (getD s j 0)) (at + (j + 1))
+put-more {l} {m} s at j h a =
+    rw (add-one j, take-suc s j 0 h)
+    (rw add-suc (rw add-one at (put-then a (put-one m (at + j) (getD s j 0)))))
+
+-- what was written at the front stands there
+pub put-front : {l m p : List ℕ} {next : ℕ} → length p ≤ length l → Put l 0 p m next → take next m ≡ p
+put-front {l} {m} {p} {next} h a =
+    rw (a .bytes, a .after, zero-add (length p), sets-eq p l 0 (omega arith)) (take-at p _ (length p) refl)

@@ -1,0 +1,22 @@
+-- `letter_of` meets its contract: the table is the list of letters.
+-- Assumes nothing.
+use borrow.Author.Needs.{needs}
+use mathlib.Core.Path.{refl, sym}
+use lib.ListN.{List·getD-eq-default}
+use Rattle.names.specs.Text.{letters, letterOf}
+use Rattle.names.proofs.letter_of.Statement.{statement}
+use Rattle.names.proofs.letter_of.Tie as tie
+
+array-read-result : tie.Need-array-read-result
+array-read-result c = search needs
+
+returns : tie.Need-returns
+unfolding letterOf
+returns c = refl
+
+returns-2 : tie.Need-returns-2
+unfolding letterOf
+returns-2 c = sym (List·getD-eq-default letters 0 (c .if1 .left))
+
+pub letter-of-spec : {M : Type 1} → statement M
+letter-of-spec = tie.close (tie.spec array-read-result returns returns-2)
