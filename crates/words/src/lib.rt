@@ -128,7 +128,7 @@ fn row_of(word: u32) -> usize
 }
 
 // The least size that a form allows.
-fn least_size(form: Form) -> usize
+pub fn least_size(form: Form) -> usize
     ensures { λ r. ⌜ r ≡ leastSize form ⌝ }
 {
     match form {
@@ -155,7 +155,7 @@ fn most_size(form: Form, q: usize) -> usize
 }
 
 // Whether a form allows a size.
-fn allows_size(form: Form, q: usize, size: usize) -> bool
+pub fn allows_size(form: Form, q: usize, size: usize) -> bool
     requires { ⌜ q < 2 ⌝ }
     ensures { λ r. ⌜ r ≡ allows form q size ⌝ }
 {
