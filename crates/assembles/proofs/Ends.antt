@@ -1,0 +1,101 @@
+-- How a text ends: as the last operand's suffix does, with the letter of a size and, before it, the last digit of a count of lanes.
+-- Assumes nothing.
+use mathlib.Core.Path.{_≡_, refl, _∙_, ap}
+use mathlib.Core.Bool.{Bool, true, false, cond}
+use mathlib.Core.List.{List, [], _∷_, _++_, append-assoc, append-nil}
+use Prim.Native.Nat.{ℕ, _-_, _/_, _≤_, _<_}
+use native.Mathlib.Omega.{arith}
+use lib.Dec.{eqb, ltb}
+use lib.ListN.{length, getD, length-append}
+use lib.Seq.{getD-append-add}
+use borrow.Author.Tests.{le-leb, eqb-true, ltb-true, ltb-false}
+use Rattle.words.proofs.Every.{every, at-each}
+use Rattle.names.specs.declared.Suffix.the-variants.{Lane, Lanes}
+use Rattle.names.specs.declared.Operand.{Operand}
+use Rattle.names.specs.Text.{digit, decimal, sizes, letters, letterOf, lanesOf, suffixText, operandText, listed}
+use Rattle.names.proofs.Pieces.{decimal-one, decimal-two}
+use Rattle.assembles.specs.Reading.{fromEnd, placeOf}
+
+-- the end of two lists is that of the second
+pub end-append : (k l : List ℕ) (i : ℕ) → i ≤ length l → fromEnd (k ++ l) i ≡ fromEnd l i
+unfolding fromEnd
+end-append k l i h =
+    let whole = length-append k l in
+    rw (le-leb i (length (k ++ l)) (omega arith), le-leb i (length l) h)
+    (ap (λ (j : ℕ). getD (k ++ l) j 0) (omega arith) ∙ getD-append-add k l (length l - i) 0)
+
+-- the last of some operands
+abbrev pub lastOf : Operand → List Operand → Operand
+lastOf o [] = o
+lastOf o (p ∷ os) = lastOf p os
+
+-- operands end as the last one's suffix does
+pub listed-end : (o : Operand) (os : List Operand) (i : ℕ) → i ≤ length (suffixText (lastOf o os .suffix))
+    → (i ≤ length (listed (o ∷ os))) × (fromEnd (listed (o ∷ os)) i ≡ fromEnd (suffixText (lastOf o os .suffix)) i)
+listed-end o [] i h =
+    let whole = length-append (decimal (o .number)) (suffixText (o .suffix)) in (
+      omega (arith, length-append (operandText o) []),
+      ap (λ (l : List ℕ). fromEnd l i) (append-nil (operandText o))
+          ∙ end-append (o .letter ∷ decimal (o .number)) (suffixText (o .suffix)) i h,
+    )
+listed-end o (p ∷ os) i h =
+    let rest = listed-end p os i h in
+    let whole = length-append (operandText o) (44 ∷ 32 ∷ listed (p ∷ os)) in (
+      omega arith,
+      end-append (operandText o) (44 ∷ 32 ∷ listed (p ∷ os)) i (omega arith)
+          ∙ end-append (44 ∷ 32 ∷ []) (listed (p ∷ os)) i (rest .0)
+          ∙ rest .1,
+    )
+
+-- the last byte of a suffix with a size is the size's letter
+pub lane-end : (size : ℕ) → fromEnd (suffixText (Lane size)) 1 ≡ letterOf size
+unfolding fromEnd
+lane-end size = refl
+
+pub lanes-end : (count size : ℕ) → fromEnd (suffixText (Lanes count size)) 1 ≡ letterOf size
+unfolding fromEnd
+lanes-end count size = end-append (46 ∷ decimal count) (letterOf size ∷ []) 1 (omega arith)
+
+-- which tells the size
+letterGood : ℕ → Bool
+letterGood size = eqb (placeOf (letterOf size) letters) size
+
+letters-good : every sizes letterGood ≡ true
+unfolding letterGood letterOf
+letters-good = refl
+
+pub place-letter : (size : ℕ) → size < sizes → placeOf (letterOf size) letters ≡ size
+unfolding letterGood
+place-letter size h = eqb-true _ _ (at-each sizes letterGood letters-good size h)
+
+-- the byte before the last is the count's last digit
+decimal-last : (n : ℕ) → (l : List ℕ) × (decimal n ≡ l ++ (digit n ∷ []))
+decimal-last n = go (ltb n 10) refl
+  where
+    go : (t : Bool) → ltb n 10 ≡ t → (l : List ℕ) × (decimal n ≡ l ++ (digit n ∷ []))
+    go true e = ([], decimal-one n (ltb-true _ _ e))
+    go false e = (digit (n / 10) ∷ [], decimal-two n (ltb-false _ _ e))
+
+pub decimal-least : (n : ℕ) → 1 ≤ length (decimal n)
+decimal-least n =
+    let (l, e) = decimal-last n in
+    rw (e, length-append l (digit n ∷ [])) (omega arith)
+
+pub count-end : (count size : ℕ) → fromEnd (suffixText (Lanes count size)) 2 ≡ digit count
+unfolding fromEnd
+count-end count size =
+    let (l, e) = decimal-last count in
+    rw (e, append-assoc l (digit count ∷ []) (letterOf size ∷ []))
+    (end-append (46 ∷ l) (digit count ∷ letterOf size ∷ []) 2 (omega arith))
+
+-- which tells Q
+qGood : ℕ → ℕ → Bool
+qGood size q = eqb (cond (eqb (digit (lanesOf q size)) (digit (lanesOf 1 size))) 1 0) q
+
+q-good : every sizes (λ size. every 2 (qGood size)) ≡ true
+unfolding qGood
+q-good = refl
+
+pub count-q : (size q : ℕ) → size < sizes → q < 2 → cond (eqb (digit (lanesOf q size)) (digit (lanesOf 1 size))) 1 0 ≡ q
+unfolding qGood
+count-q size q hs hq = eqb-true _ _ (at-each 2 (qGood size) (at-each sizes (λ s. every 2 (qGood s)) q-good size hs) q hq)

@@ -1,0 +1,7 @@
+pub mod Scan
+pub mod Free
+pub mod Numbers
+pub mod Ends
+pub mod Back
+pub mod Assembling
+pub mod Theorems

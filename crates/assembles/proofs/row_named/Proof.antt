@@ -1,0 +1,52 @@
+-- `row_named` meets its contract. The invariant: the search from row i on finds what the whole search finds. The measure is the rows left.
+-- Assumes nothing.
+use mathlib.Core.Path.{_≡_, refl, sym, _∙_}
+use mathlib.Core.List.{List}
+use Prim.Native.Nat.{ℕ, _≤_, _-_}
+use native.Mathlib.Omega.{arith}
+use lib.ListN.{take, drop}
+use Rattle.words.specs.Table.{rows}
+use Rattle.names.specs.Text.{keyBytes}
+use Rattle.assembles.specs.Reading.{keys, keyFrom, rowNamed}
+use Rattle.assembles.proofs.Scan.{key-here, key-next}
+use Rattle.assembles.proofs.row_named.Statement.{statement}
+use Rattle.assembles.proofs.row_named.Tie as tie
+
+abbrev Inv-loop : tie.InvT-loop
+Inv-loop text i₀ i = (i ≤ rows) × (keyFrom i (drop i keys) (take keyBytes text) ≡ rowNamed text)
+
+abbrev μ-loop : tie.MeasureT-loop
+μ-loop text i₀ i = rows - i
+
+loop-holds : tie.Need-loop-holds Inv-loop μ-loop
+unfolding rowNamed
+loop-holds c = (omega arith, refl)
+
+is-named-requires : tie.Need-is-named-requires Inv-loop μ-loop
+is-named-requires c κs = omega arith
+
+returns : tie.Need-returns Inv-loop μ-loop
+returns c = sym (key-here _ _ (c .before .before .loop-test .taken) (sym (c .before .is-named .ensures) ∙ c .if1 .taken)) ∙ c .before .before .before .loop .inv .1
+
+add-i : tie.Need-add-i Inv-loop μ-loop
+add-i c = omega arith
+
+loop-less : tie.Need-loop-less Inv-loop μ-loop
+loop-less c = omega arith
+
+loop-again : tie.Need-loop-again Inv-loop μ-loop
+loop-again c = (
+  omega arith,
+  sym (key-next _ _ (c .before .before .loop-test .taken) (sym (c .before .is-named .ensures) ∙ c .if1 .left)) ∙ c .before .before .before .loop .inv .1,
+)
+
+-- past the last row the search stops
+past : (i : ℕ) (text : List ℕ) → i ≡ rows → keyFrom i (drop i keys) (take keyBytes text) ≡ rowNamed text → i ≡ rowNamed text
+unfolding keyFrom
+past i text e h = e ∙ (rw e at h)
+
+returns-2 : tie.Need-returns-2 Inv-loop μ-loop
+returns-2 c = past _ _ (omega arith) (c .before .loop .inv .1)
+
+pub row-named-spec : {M : Type 1} → statement M
+row-named-spec = tie.close (tie.spec Inv-loop μ-loop loop-holds is-named-requires returns add-i loop-less loop-again returns-2)
