@@ -1,0 +1,13 @@
+-- M1 to M12: of every marked case the definitions give what the paper says, computed.
+-- Assumes nothing.
+use mathlib.Core.Path.{_≡_, refl}
+use mathlib.Core.List.{map}
+use Rattle.words.specs.Digits.{digitsAnd}
+use Rattle.words.specs.Table.{matches, placeFrom, rowOf}
+use Rattle.words.specs.Decode.{decoded}
+use Rattle.names.specs.Text.{nameOf, decimal, letterOf, textOf}
+use Rattle.marked.specs.Cases.{cases, outcome, expected}
+
+pub marked-cases : map outcome cases ≡ map expected cases
+unfolding digitsAnd matches placeFrom rowOf decoded nameOf decimal letterOf textOf
+marked-cases = refl
