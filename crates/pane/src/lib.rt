@@ -27,7 +27,7 @@ fn register_count(kind: Kind) -> usize
 }
 
 // The bytes of a register of a kind.
-fn register_bytes(k: usize, kind: Kind) -> usize
+pub fn register_bytes(k: usize, kind: Kind) -> usize
     requires { ⌜ k ≤ mostLength ⌝ }
     ensures { λ r. ⌜ r ≡ sizeOf k kind ⌝ }
 {
@@ -39,7 +39,7 @@ fn register_bytes(k: usize, kind: Kind) -> usize
 }
 
 // Where a register of a kind starts in its file.
-fn register_start(k: usize, kind: Kind, number: usize) -> usize
+pub fn register_start(k: usize, kind: Kind, number: usize) -> usize
     requires { ⌜ (k ≤ mostLength) × (number < countOf kind) ⌝ }
     ensures { λ r. ⌜ r ≡ startOf k kind number ⌝ }
 {
