@@ -1,0 +1,31 @@
+-- The heading: two lists of bytes are the same exactly where the test says so, and a journal that is cleared and then has its heading
+-- written is a fresh one.
+-- Assumes nothing.
+use Prim.Native.Nat.{ℕ}
+use mathlib.Core.Path.{_≡_, refl, sym, ap₂}
+use mathlib.Core.Bool.{Bool, true, false}
+use mathlib.Core.List.{List, [], _∷_}
+use lib.Dec.{eqb}
+use borrow.Author.Tests.{eqb-true, eq-eqb}
+use Rattle.machine.proofs.Checks.{both-left, both-right}
+use Rattle.journal.specs.Layout.{sameBytes}
+
+pub same-true : (a b : List ℕ) → sameBytes a b ≡ true → a ≡ b
+same-true [] [] e = refl
+same-true [] (y ∷ ys) e = cc
+same-true (x ∷ xs) [] e = cc
+same-true (x ∷ xs) (y ∷ ys) e =
+    ap₂ _∷_ (eqb-true x y (both-left _ (sameBytes xs ys) e)) (same-true xs ys (both-right (eqb x y) _ e))
+
+pub same-refl : (a : List ℕ) → sameBytes a a ≡ true
+same-refl [] = refl
+same-refl (x ∷ xs) = rw (eq-eqb x x refl, same-refl xs)
+
+-- a test that holds exactly where two lists are equal is the test of their bytes
+pub same-exactly : (r : Bool) (a b : List ℕ) → (r ≡ true → a ≡ b) → (a ≡ b → r ≡ true) → r ≡ sameBytes a b
+same-exactly true a b p q = rw (p refl) (sym (same-refl b))
+same-exactly false a b p q = go (sameBytes a b) refl
+  where
+    go : (t : Bool) → sameBytes a b ≡ t → false ≡ t
+    go true e = q (same-true a b e)
+    go false e = refl

@@ -1,0 +1,14 @@
+pub mod Part
+pub mod Places
+pub mod Heading
+pub mod Refusals
+pub mod Formed
+pub mod Vectors
+pub mod Pushed
+pub mod Accepted
+pub mod BackAfterStep
+pub mod Walked
+pub mod Demand3
+pub mod Counted
+pub mod Frame
+pub mod Determined

@@ -1,0 +1,4 @@
+pub mod Layout
+pub mod Calls
+pub mod Walk
+pub mod Needs
