@@ -1,5 +1,4 @@
--- The heading: two lists of bytes are the same exactly where the test says so, and a journal that is cleared and then has its heading
--- written is a fresh one.
+-- The heading's test: two lists of bytes are the same exactly where it says so.
 -- Assumes nothing.
 use Prim.Native.Nat.{ℕ}
 use mathlib.Core.Path.{_≡_, refl, sym, ap₂}

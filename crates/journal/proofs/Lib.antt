@@ -12,3 +12,4 @@ pub mod Demand3
 pub mod Counted
 pub mod Frame
 pub mod Determined
+pub mod Exactly

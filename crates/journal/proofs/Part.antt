@@ -168,7 +168,3 @@ with-next a n x e l h =
     ap (λ (s : List ℕ). s ++ e ++ drop (a + 1 + n) (set l a x)) (ap (λ (i : ℕ). take i (set l a x)) (add-one a) ∙ take-suc-set l a x h)
     ∙ ap (λ (s : List ℕ). take a l ++ (x ∷ []) ++ e ++ s) (drop-set-lt (a + 1 + n) l a x (omega arith) ∙ ap (λ (i : ℕ). drop i l) (add-assoc a 1 n))
     ∙ ap (λ (s : List ℕ). s ++ drop (a + (1 + n)) l) (append-assoc (take a l) (x ∷ []) e)
-
--- the same part of the same list
-pub with-cong : (l : List ℕ) {a b m n : ℕ} {e f : List ℕ} → a ≡ b → m ≡ n → e ≡ f → withPart a m e l ≡ withPart b n f l
-with-cong l p q r = cc
