@@ -14,7 +14,7 @@ use Rattle.names.specs.declared.Suffix.the-variants.{Lane, Lanes}
 use Rattle.names.specs.declared.Operand.{Operand}
 use Rattle.names.specs.Text.{digit, decimal, sizes, letters, letterOf, lanesOf, suffixText, operandText, listed}
 use Rattle.names.proofs.Pieces.{decimal-one, decimal-two}
-use Rattle.assembles.specs.Reading.{fromEnd, placeOf}
+use Rattle.assembles.specs.Reading.{fromEnd, placeOf, fullDigits}
 
 -- the end of two lists is that of the second
 pub end-append : (k l : List ℕ) (i : ℕ) → i ≤ length l → fromEnd (k ++ l) i ≡ fromEnd l i
@@ -90,12 +90,12 @@ count-end count size =
 
 -- which tells Q
 qGood : ℕ → ℕ → Bool
-qGood size q = eqb (cond (eqb (digit (lanesOf q size)) (digit (lanesOf 1 size))) 1 0) q
+qGood size q = eqb (cond (eqb (digit (lanesOf q size)) (getD fullDigits size 0)) 1 0) q
 
 q-good : every sizes (λ size. every 2 (qGood size)) ≡ true
 unfolding qGood
 q-good = refl
 
-pub count-q : (size q : ℕ) → size < sizes → q < 2 → cond (eqb (digit (lanesOf q size)) (digit (lanesOf 1 size))) 1 0 ≡ q
+pub count-q : (size q : ℕ) → size < sizes → q < 2 → cond (eqb (digit (lanesOf q size)) (getD fullDigits size 0)) 1 0 ≡ q
 unfolding qGood
 count-q size q hs hq = eqb-true _ _ (at-each 2 (qGood size) (at-each sizes (λ s. every 2 (qGood s)) q-good size hs) q hq)

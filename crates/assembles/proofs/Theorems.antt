@@ -2,7 +2,7 @@
 -- `assemble` allows one result.
 -- Assumes nothing.
 use mathlib.Core.Path.{_≡_, sym, _∙_, ap}
-use mathlib.Core.Logic.{⊎-elim}
+use mathlib.Core.Logic.{⊎-elim, _↔_}
 use mathlib.Core.List.{List}
 use Prim.Native.Nat.{ℕ, _≤_, _<_, _^_}
 use lib.ListN.{length, take}
@@ -46,6 +46,16 @@ assembled-word text r word a reads =
     (λ (done : r .number ≡ DONE). (done, reads-once text (r .value) word (a .done done) reads))
     (λ (none : r .number ≡ TEXT). absurd (a .refused none .1 word reads))
     (a .number)
+
+-- DONE with a word exactly where that accepted word reads so, TEXT exactly where none does
+pub done-exactly : (text : List ℕ) (r : Answer) (word : ℕ) → Assembled text r → ((r .number ≡ DONE) × (r .value ≡ word)) ↔ ReadsAs word text
+done-exactly text r word a = (λ h. rw (h .1) at (a .done (h .0)), assembled-word text r word a)
+
+pub text-exactly : (text : List ℕ) (r : Answer) → Assembled text r → (r .number ≡ TEXT) ↔ ((word : ℕ) → ReadsAs word text → ⊥)
+text-exactly text r a = (
+  λ e. a .refused e .1,
+  λ none. ⊎-elim (λ (done : r .number ≡ DONE). absurd (none (r .value) (a .done done))) (λ e. e) (a .number),
+)
 
 -- two results that the contract of `assemble` allows are the same
 pub assemble-determined : (text : List ℕ) (r s : Answer) → Assembled text r → Assembled text s → r ≡ s

@@ -1,30 +1,19 @@
 -- What the assembler reads in a text, whatever its bytes are: the row by its first six bytes, the size by its last, the numbers after the
--- first letter of each operand. Of a text of an accepted word these are the word's fields; of no other text is anything promised.
-use Prim.Native.Nat.{ℕ, suc, _+_, _*_, _-_, _<_, _^_}
+-- first letter of each operand. Of a text of an accepted word these make the word; of any other text nothing is promised of them.
+use Prim.Native.Nat.{ℕ, suc, _+_, _*_, _-_, _%_, _^_}
 use Prim.Native.Char.{code}
-use mathlib.Core.Path.{_≡_}
-use mathlib.Core.Bool.{Bool, true, cond}
-use mathlib.Core.List.{List, [], _∷_, map}
+use mathlib.Core.Bool.{Bool, cond}
+use mathlib.Core.List.{List, [], _∷_}
 use lib.Dec.{eqb, leb}
-use lib.ListN.{length, getD, take}
+use lib.ListN.{length, getD}
 use Rattle.machine.specs.Size.{both}
-use Rattle.words.specs.Table.{rows, formOf, leastSize, allows}
-use Rattle.words.specs.Decode.{isGoverned, hasSecond, hasQ}
+use Rattle.words.specs.Digits.{wordDigits}
+use Rattle.words.specs.Table.{formOf}
+use Rattle.words.specs.Encode.{encoded}
 use Rattle.words.specs.declared.Form.{Form}
+use Rattle.words.specs.declared.Form.the-variants.{Reduction, Segment, Long, Pairwise, Widening}
 use Rattle.words.specs.declared.Fields.{Fields}
-use Rattle.names.specs.Text.{sameBytes, names, keyBytes, key, digit, sizes, letters, lanesOf}
-
--- the keys of the rows
-abbrev pub keys : List (List ℕ)
-keys = map key names
-
--- the place of the first key that these bytes are, counted from i; past the last where none is
-unfoldable pub keyFrom : ℕ → List (List ℕ) → List ℕ → ℕ
-keyFrom i [] bytes = i
-keyFrom i (k ∷ ks) bytes = cond (sameBytes k bytes) i (keyFrom (suc i) ks bytes)
-
-unfoldable pub rowNamed : List ℕ → ℕ
-rowNamed text = keyFrom 0 keys (take keyBytes text)
+use Rattle.names.specs.Text.{bytes, rowNamed, letters}
 
 -- what follows the first space
 unfoldable pub pastSpace : List ℕ → List ℕ
@@ -51,35 +40,48 @@ abbrev pub placeOf : ℕ → List ℕ → ℕ
 placeOf b [] = 0
 placeOf b (l ∷ ls) = cond (eqb b l) 0 (suc (placeOf b ls))
 
--- the size: the last letter's, or one more in the forms that end in half the width
-abbrev pub sizeIn : Form → List ℕ → ℕ
-sizeIn form text = placeOf (fromEnd text 1) letters + leastSize form
+-- the size of the last letter
+abbrev pub sizeIn : List ℕ → ℕ
+sizeIn text = placeOf (fromEnd text 1) letters
 
--- Q: whether the count of lanes ends as that of 16 bytes does
+-- Q: whether the count of lanes ends as that of 16 bytes does: 16, 8, 4, 2
+abbrev pub fullDigits : List ℕ
+fullDigits = bytes "6842"
+
 abbrev pub qIn : ℕ → List ℕ → ℕ
-qIn size text = cond (leb sizes size) 0 (cond (eqb (fromEnd text 2) (digit (lanesOf 1 size))) 1 0)
+qIn size text = cond (eqb (fromEnd text 2) (getD fullDigits size 0)) 1 0
+
+-- the operands' numbers
+abbrev pub firstIn : List ℕ → ℕ
+firstIn text = numberIn (pastSpace text)
+
+abbrev pub secondIn : List ℕ → ℕ
+secondIn text = numberIn (pastSpace (pastSpace text))
+
+abbrev pub thirdIn : List ℕ → ℕ
+thirdIn text = numberIn (pastSpace (pastSpace (pastSpace text)))
+
+abbrev pub fields : ℕ → ℕ → ℕ → ℕ → ℕ → ℕ → ℕ → Fields
+fields row size d g n m q = record { row = row; size = size; n = n; d = d; g = g; m = m; q = q }
+
+-- the fields by the form, of the size of the last letter, three numbers and Q; the last letter is of half the width in the last two
+abbrev pub byForm : ℕ → Form → ℕ → ℕ → ℕ → ℕ → ℕ → Fields
+byForm row (Reduction signed) size a b c q = fields row size a b c 0 0
+byForm row Segment size a b c q = fields row size a b c 0 0
+byForm row (Long signed) size a b c q = fields row size a 0 b 0 q
+byForm row (Pairwise signed) size a b c q = fields row (size + 1) a b c 0 0
+byForm row (Widening signed top) size a b c q = fields row (size + 1) a 0 b c 0
 
 -- the fields of a text of a row
 abbrev pub readAs : ℕ → Form → List ℕ → Fields
-readAs row form text =
-    record {
-      row = row;
-      size = sizeIn form text;
-      n = cond (isGoverned form) (numberIn (pastSpace (pastSpace (pastSpace text)))) (numberIn (pastSpace (pastSpace text)));
-      d = numberIn (pastSpace text);
-      g = cond (isGoverned form) (numberIn (pastSpace (pastSpace text))) 0;
-      m = cond (hasSecond form) (numberIn (pastSpace (pastSpace (pastSpace text)))) 0;
-      q = cond (hasQ form) (qIn (sizeIn form text) text) 0;
-    }
+readAs row form text = byForm row form (sizeIn text) (firstIn text) (secondIn text) (thirdIn text) (qIn (sizeIn text) text)
 
 abbrev pub fieldsFrom : List ℕ → Fields
 fieldsFrom text = readAs (rowNamed text) (formOf (rowNamed text)) text
 
--- what is tested of them
-pub record Ranged (f : Fields) : Type 0 where
-  pub row : f .row < rows
-  pub n : f .n < 2 ^ 5
-  pub d : f .d < 2 ^ 5
-  pub g : f .g < 2 ^ 3
-  pub m : f .m < 2 ^ 5
-  pub allowed : allows (formOf (f .row)) (f .q) (f .size) ≡ true
+-- a word with these fields, of each as many digits as its place has
+abbrev pub limited : Fields → Fields
+limited f = fields (f .row) (f .size % 4) (f .d % 32) (f .g % 8) (f .n % 32) (f .m % 32) (f .q % 2)
+
+abbrev pub wordOf : Fields → ℕ
+wordOf f = encoded (limited f) % 2 ^ wordDigits

@@ -4,14 +4,16 @@ use machine::refusal;
 use words::Fields;
 use words::Form;
 ghost use mathlib.Core.Path.{_≡_};
-ghost use mathlib.Core.Bool.{true, cond};
-ghost use Prim.Native.Nat.{_+_, _*_, _≤_, _<_, _^_};
-ghost use lib.ListN.{length, getD, take, drop};
-ghost use Rattle.words.specs.Table.{rows};
-ghost use Rattle.words.specs.Encode.{encoded, InRange};
-ghost use Rattle.names.specs.Text.{sameBytes, keyBytes, keyOf, letters, textOf};
-ghost use Rattle.assembles.specs.Reading.{rowNamed, pastSpace, worth, isDigit, numberIn, fromEnd, placeOf, sizeIn, qIn, fieldsFrom, Ranged};
+ghost use Prim.Native.Nat.{_*_, _%_, _≤_, _<_, _^_};
+ghost use lib.ListN.{length, getD, drop};
+ghost use Rattle.words.specs.Digits.{wordDigits};
+ghost use Rattle.words.specs.Table.{rowAt, formOf};
+ghost use Rattle.names.specs.Text.{sizes, letters};
+ghost use Rattle.assembles.specs.Reading.{pastSpace, worth, isDigit, numberIn, fromEnd, placeOf, sizeIn, fullDigits, qIn, fields, byForm, fieldsFrom, wordOf};
 ghost use Rattle.assembles.specs.Assembled.{Assembled};
+
+// The last digits of how many lanes of each size 16 bytes have.
+const FULL_DIGITS: [u8; names::SIZES] = *b"6842";
 
 // The byte at a place; 0 past the end.
 fn byte_at(text: &[u8], at: usize) -> u8
@@ -29,32 +31,6 @@ fn byte_from_end(text: &[u8], k: usize) -> u8
     } else {
         0
     }
-}
-
-// Whether the first six bytes are those of a row.
-fn is_named(text: &[u8], row: usize) -> bool
-    requires { ⌜ row < rows ⌝ }
-    ensures { λ r. ⌜ r ≡ sameBytes (keyOf row) (take keyBytes (now (text .entry))) ⌝ }
-{
-    if text.len() < names::KEY {
-        return false;
-    }
-    let key = names::name_of(row);
-    check::same(&key, &text[..names::KEY])
-}
-
-// The row that the first six bytes name, or the number of rows.
-fn row_named(text: &[u8]) -> usize
-    ensures { λ r. ⌜ r ≡ rowNamed (now (text .entry)) ⌝ }
-{
-    let mut i = 0;
-    while i < words::ROWS {
-        if is_named(text, i) {
-            return i;
-        }
-        i += 1;
-    }
-    i
 }
 
 // The place after the first space from a place on; the end where there is none.
@@ -115,120 +91,123 @@ fn size_of(letter: u8) -> usize
     }
 }
 
-// The size that a text ends with.
-fn size_in(form: Form, text: &[u8]) -> usize
-    ensures { λ r. ⌜ r ≡ sizeIn form (now (text .entry)) ⌝ }
+// The size that a text's last letter tells.
+fn size_in(text: &[u8]) -> usize
+    ensures { λ r. ⌜ r ≡ sizeIn (now (text .entry)) ⌝ }
 {
-    size_of(byte_from_end(text, 1)) + words::least_size(form)
+    size_of(byte_from_end(text, 1))
 }
 
 // Q: whether the count of lanes ends as that of 16 bytes does.
 fn q_in(size: usize, text: &[u8]) -> usize
     ensures { λ r. ⌜ r ≡ qIn size (now (text .entry)) ⌝ }
 {
-    if names::SIZES <= size {
-        return 0;
-    }
-    if byte_from_end(text, 2) == names::digit(names::lanes_of(1, size)) {
+    if byte_from_end(text, 2) == full_digit(size) {
         1
     } else {
         0
     }
 }
 
-// The first of two numbers, or the second.
-fn pick(first: bool, a: usize, b: usize) -> usize
-    ensures { λ r. ⌜ r ≡ cond first a b ⌝ }
+// The last digit of how many lanes of a size 16 bytes have; 0 past the last size.
+fn full_digit(size: usize) -> u8
+    ensures { λ r. ⌜ r ≡ getD fullDigits size 0 ⌝ }
 {
-    if first { a } else { b }
+    if size < names::SIZES {
+        FULL_DIGITS[size]
+    } else {
+        0
+    }
+}
+
+// Fields in the order of the operands.
+fn fields(row: usize, size: usize, d: usize, g: usize, n: usize, m: usize, q: usize) -> Fields
+    ensures { λ r. ⌜ r ≡ fields row size d g n m q ⌝ }
+{
+    Fields {
+        row,
+        size,
+        n,
+        d,
+        g,
+        m,
+        q,
+    }
+}
+
+// The fields by the form, of the size of the last letter, three numbers and Q.
+fn by_form(row: usize, size: usize, a: usize, b: usize, c: usize, q: usize) -> Fields
+    requires { ⌜ size ≤ sizes ⌝ }
+    ensures { λ r. ⌜ r ≡ byForm row (formOf row) size a b c q ⌝ }
+{
+    match words::form_of(row) {
+        Form::Reduction(_) => fields(row, size, a, b, c, 0, 0),
+        Form::Segment => fields(row, size, a, b, c, 0, 0),
+        Form::Long(_) => fields(row, size, a, 0, b, 0, q),
+        Form::Pairwise(_) => fields(row, size + 1, a, b, c, 0, 0),
+        Form::Widening(_, _) => fields(row, size + 1, a, 0, b, c, 0),
+    }
 }
 
 // The fields that a text has, if it is the text of an accepted word.
 fn read_fields(text: &[u8]) -> Fields
     ensures { λ r. ⌜ r ≡ fieldsFrom (now (text .entry)) ⌝ }
 {
-    let row = row_named(text);
-    let form = words::form_of(row);
+    let row = names::row_named(text);
     let first = past_space(text, 0);
     let second = past_space(text, first);
     let third = past_space(text, second);
-    let size = size_in(form, text);
-    let middle = number_at(text, second);
-    let last = number_at(text, third);
-    Fields {
-        row,
-        size,
-        n: pick(words::is_governed(form), last, middle),
-        d: number_at(text, first),
-        g: pick(words::is_governed(form), middle, 0),
-        m: pick(words::has_second(form), last, 0),
-        q: pick(words::has_q(form), q_in(size, text), 0),
-    }
+    let a = number_at(text, first);
+    let b = number_at(text, second);
+    let c = number_at(text, third);
+    let size = size_in(text);
+    by_form(row, size, a, b, c, q_in(size, text))
 }
 
-// Whether the row is one of the table, the registers are there, and the size is allowed.
-fn is_ranged(f: Fields) -> bool
-    requires { ⌜ f .q < 2 ⌝ }
-    ensures { λ r. ⌜ (r ≡ true → Ranged f) × (Ranged f → r ≡ true) ⌝ }
+// The value of a row of the table; 0 past the last.
+fn value_of(row: usize) -> u64
+    ensures { λ r. ⌜ (r ≡ rowAt row .value) × (r < 2 ^ wordDigits) ⌝ }
 {
-    if words::ROWS <= f.row {
-        return false;
+    if row < words::ROWS {
+        let entry = words::TABLE[row];
+        return entry.value as u64;
     }
-    if 32 <= f.n {
-        return false;
-    }
-    if 32 <= f.d {
-        return false;
-    }
-    if 8 <= f.g {
-        return false;
-    }
-    if 32 <= f.m {
-        return false;
-    }
-    words::allows_size(words::form_of(f.row), f.q, f.size)
+    0
 }
 
-// A field at its place in a word.
-fn placed(field: usize, place: u64) -> u64
-    requires { ⌜ (field < 2 ^ 5) × (place ≤ 2 ^ 30) ⌝ }
-    ensures { λ r. ⌜ r ≡ field * place ⌝ }
+// A number's digits below a limit, at their place in a word.
+fn placed(number: usize, limit: usize, place: u64) -> u64
+    requires { ⌜ (0 < limit) × (limit ≤ 32) × (place ≤ 2 ^ 30) ⌝ }
+    ensures { λ r. ⌜ r ≡ number % limit * place ⌝ }
 {
-    field as u64 * place
+    (number % limit) as u64 * place
 }
 
 // The word that fields make: the row's value plus each field at its place.
-fn encode(f: Fields) -> u64
-    requires { ⌜ InRange f ⌝ }
-    ensures { λ r. ⌜ r ≡ encoded f ⌝ }
+fn encode(f: Fields) -> u32
+    ensures { λ r. ⌜ r ≡ wordOf f ⌝ }
 {
-    let i = f.row;
-    let row = words::TABLE[i];
-    let sources = placed(f.n, 1 << 5) + placed(f.m, 1 << 16);
-    let others = placed(f.size, 1 << 22) + placed(f.g, 1 << 10) + placed(f.q, 1 << 30);
-    row.value as u64 + sources + others + placed(f.d, 1)
+    let value = value_of(f.row);
+    let sources = placed(f.n, 32, 1 << 5) + placed(f.m, 32, 1 << 16);
+    let others = placed(f.size, 4, 1 << 22) + placed(f.g, 8, 1 << 10) + placed(f.q, 2, 1 << 30);
+    let sum = value + sources + others + placed(f.d, 32, 1);
+    (sum % 0x100000000) as u32
 }
 
-// Whether a text is that of the word with these fields.
-fn is_text_of(f: Fields, text: &[u8]) -> bool
-    requires { ⌜ InRange f ⌝ }
-    ensures { λ r. ⌜ (r ≡ true → textOf f ≡ now (text .entry)) × (textOf f ≡ now (text .entry) → r ≡ true) ⌝ }
-{
-    let mut line = [0u8; names::LEAST_OUT];
-    let count = names::put_text(&mut line, f);
-    check::same(&line[..count], text)
-}
-
-// The accepted word that reads as this text, or TEXT.
+// The accepted word that reads as this text, or TEXT. The word that is read is named, and its text must be this one.
 pub fn assemble(text: &[u8]) -> Answer
     ensures { λ r. ⌜ Assembled (now (text .entry)) r ⌝ }
 {
-    let f = read_fields(text);
-    if is_ranged(f) {
-        if is_text_of(f, text) {
+    let word = encode(read_fields(text));
+    let value = word as u64;
+    let mut line = [0u8; names::LEAST_OUT];
+    let named = names::text(word, &mut line);
+    let count = named.value as usize;
+    if named.number == refusal::DONE {
+        if check::same(&line[..count], text) {
             return Answer {
                 number: refusal::DONE,
-                value: encode(f),
+                value,
             };
         }
     }

@@ -18,6 +18,7 @@ use Rattle.words.specs.declared.Decoded.{Decoded}
 use Rattle.words.specs.declared.Decoded.the-variants.{Unknown, Undefined, Word}
 use Rattle.names.specs.Text.{textOf}
 use Rattle.names.specs.Named.{leastOut, outTest, unknownTest, undefinedTest, textOfWord, refusal, laid, Named, Put}
+use Rattle.names.proofs.Longest.{mostText, word-length}
 
 -- two results that the contract of `text` allows are the same
 pub text-determined : (word : ℕ) (old new new′ : List ℕ) (r r′ : Answer) → Named word old new r → Named word old new′ r′ → (r ≡ r′) × (new ≡ new′)
@@ -92,3 +93,12 @@ accepted-named word old new r named long accepted =
       ap (λ (a : Answer). a .number) is,
       rw (laid-out, is) (take-at (textOfWord word) _ (length (textOfWord word)) refl),
     )
+
+-- the length that is answered
+answer-most : (n v : ℕ) → answer n v .value ≤ v
+answer-most zero v = omega arith
+answer-most (suc n) v = omega arith
+
+pub named-most : (word : ℕ) (old new : List ℕ) (r : Answer) → Named word old new r → r .value ≤ mostText
+named-most word old new r named =
+    rw (named .answered) (omega (arith, answer-most (refusal (length old) word) (length (textOfWord word)), word-length word))

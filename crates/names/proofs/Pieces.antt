@@ -57,7 +57,9 @@ module _ (f : Fields) (form : Form) (form-is : form ≡ formOf (f .row)) where
       → textOf f ≡ (nameOf (f .row) ++ bytes " " ++ operandText o) ++ (bytes ", " ++ operandText p)
   unfolding textOf
   text-two o p q first second =
-      rw (← form-is, first, second) (go form q ∙ join-two (nameOf (f .row) ++ bytes " ") (operandText (operandAt 0 form f)) (bytes ", " ++ operandText (operandAt 1 form f)))
+      rw (← form-is, first, second)
+      (go form q
+      ∙ join-two (nameOf (f .row) ++ bytes " ") (operandText (operandAt 0 form f)) (bytes ", " ++ operandText (operandAt 1 form f)))
     where
       go : (form : Form) → hasQ form ≡ true
           → nameOf (f .row) ++ bytes " " ++ listed (operandsOf form f) ≡ nameOf (f .row) ++ bytes " " ++ listed (operandAt 0 form f ∷ operandAt 1 form f ∷ [])
@@ -73,7 +75,8 @@ module _ (f : Fields) (form : Form) (form-is : form ≡ formOf (f .row)) where
   text-three o p q none first second third =
       rw (← form-is, first, second, third)
       (go form none
-      ∙ join-three (nameOf (f .row) ++ bytes " ") (operandText (operandAt 0 form f)) (bytes ", " ++ operandText (operandAt 1 form f)) (bytes ", " ++ operandText (operandAt 2 form f)))
+      ∙ join-three (nameOf (f .row) ++ bytes " ") (operandText (operandAt 0 form f)) (bytes ", " ++ operandText (operandAt 1 form f))
+      (bytes ", " ++ operandText (operandAt 2 form f)))
     where
       go : (form : Form) → hasQ form ≡ false
           → nameOf (f .row) ++ bytes " " ++ listed (operandsOf form f)

@@ -1,9 +1,9 @@
 -- How a word reads: the name, one space, and the operands, comma and space between them.
-use Prim.Native.Nat.{ℕ, _+_, _*_, _-_, _/_, _%_, _^_}
+use Prim.Native.Nat.{ℕ, suc, _+_, _*_, _-_, _/_, _%_, _^_}
 use Prim.Native.String.{String}
 use Prim.Native.Char.{code}
 use mathlib.Core.Bool.{Bool, true, false, cond}
-use mathlib.Core.List.{List, [], _∷_, _++_}
+use mathlib.Core.List.{List, [], _∷_, _++_, map}
 use lib.Dec.{eqb, ltb}
 use lib.ListN.{getD, take}
 use Rattle.machine.specs.Size.{both}
@@ -56,6 +56,18 @@ key name = take keyBytes (name ++ bytes " ")
 unfoldable pub keyOf : ℕ → List ℕ
 keyOf row = key (nameOf row)
 
+-- the place of the first key that these bytes are, counted from i; past the last where none is
+abbrev pub keys : List (List ℕ)
+keys = map key names
+
+unfoldable pub keyFrom : ℕ → List (List ℕ) → List ℕ → ℕ
+keyFrom i [] bytes = i
+keyFrom i (k ∷ ks) bytes = cond (sameBytes k bytes) i (keyFrom (suc i) ks bytes)
+
+-- the row that a text's first six bytes name; the number of rows where they name none
+unfoldable pub rowNamed : List ℕ → ℕ
+rowNamed text = keyFrom 0 keys (take keyBytes text)
+
 -- the last decimal digit of a number, and a number below 100 without a leading zero
 abbrev pub digit : ℕ → ℕ
 digit n = code "0" + n % 10
@@ -93,7 +105,8 @@ operandText o = o .letter ∷ decimal (o .number) ++ suffixText (o .suffix)
 
 -- the operands of each form
 abbrev pub operandsOf : Form → Fields → List Operand
-operandsOf (Reduction signed) f = operand (code "d") (f .d) Plain ∷ operand (code "p") (f .g) Plain ∷ operand (code "z") (f .n) (Lane (f .size)) ∷ []
+operandsOf (Reduction signed) f =
+    operand (code "d") (f .d) Plain ∷ operand (code "p") (f .g) Plain ∷ operand (code "z") (f .n) (Lane (f .size)) ∷ []
 operandsOf Segment f =
     operand (code "v") (f .d) (Lanes (lanesOf 1 (f .size)) (f .size))
     ∷ operand (code "p") (f .g) Plain

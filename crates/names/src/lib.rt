@@ -7,10 +7,11 @@ use words::Form;
 ghost use mathlib.Core.Path.{_≡_};
 ghost use mathlib.Core.List.{[], _∷_, _++_};
 ghost use Prim.Native.Nat.{_+_, _-_, _≤_, _<_};
-ghost use lib.ListN.{length};
+ghost use lib.ListN.{length, take};
 ghost use Rattle.words.specs.Table.{rows};
+ghost use Rattle.words.specs.Decode.{hasQ};
 ghost use Rattle.words.specs.Encode.{InRange};
-ghost use Rattle.names.specs.Text.{bytes, nameOf, keyBytes, keyOf, digit, decimal, sizes, letterOf, lanesOf, suffixText, operand, operandText, operandAt, textOf};
+ghost use Rattle.names.specs.Text.{bytes, sameBytes, nameOf, keyBytes, keyOf, rowNamed, digit, decimal, sizes, letterOf, lanesOf, suffixText, operand, operandText, operandAt, textOf};
 ghost use Rattle.names.specs.Named.{leastOut, Put, Named};
 
 // What follows a register's number: nothing, the lanes' size, their count and size, or that inactive lanes merge.
@@ -44,7 +45,7 @@ const NAMES: [[u8; KEY]; words::ROWS] = [
 ];
 
 // How many bytes tell a text's row.
-pub const KEY: usize = 6;
+const KEY: usize = 6;
 
 // The letters of the sizes.
 const LETTERS: [u8; SIZES] = *b"bhsd";
@@ -78,7 +79,7 @@ fn put_bytes(out: &mut [u8], at: usize, piece: &[u8]) -> usize
 }
 
 // The last decimal digit of a number.
-pub fn digit(n: usize) -> u8
+fn digit(n: usize) -> u8
     ensures { λ r. ⌜ r ≡ digit n ⌝ }
 {
     b'0' + (n % 10) as u8
@@ -104,7 +105,7 @@ fn letter_of(size: usize) -> u8
 }
 
 // How many lanes of a size the low 8 bytes (Q = 0) or 16 bytes (Q = 1) of a register have.
-pub fn lanes_of(q: usize, size: usize) -> usize
+fn lanes_of(q: usize, size: usize) -> usize
     requires { ⌜ (q < 2) × (size < sizes) ⌝ }
     ensures { λ r. ⌜ r ≡ lanesOf q size ⌝ }
 {
@@ -155,7 +156,7 @@ fn put_next(out: &mut [u8], at: usize, operand: Operand) -> usize
 }
 
 // The first six bytes of a text of a row.
-pub fn name_of(row: usize) -> [u8; KEY]
+fn name_of(row: usize) -> [u8; KEY]
     requires { ⌜ row < rows ⌝ }
     ensures { λ r. ⌜ (r ≡ keyOf row) × (keyBytes ≡ length r) ⌝ }
 {
@@ -239,8 +240,21 @@ fn third_operand(form: Form, f: Fields) -> Operand
     }
 }
 
+// Whether a form is a long one, which has two operands.
+fn is_long(form: Form) -> bool
+    ensures { λ r. ⌜ r ≡ hasQ form ⌝ }
+{
+    match form {
+        Form::Reduction(_) => false,
+        Form::Segment => false,
+        Form::Long(_) => true,
+        Form::Pairwise(_) => false,
+        Form::Widening(_, _) => false,
+    }
+}
+
 // Writes the text of a word with these fields at the front, and answers its length.
-pub fn put_text(out: &mut [u8], f: Fields) -> usize
+fn put_text(out: &mut [u8], f: Fields) -> usize
     requires { ⌜ (leastOut ≤ length (now out)) × InRange f ⌝ }
     ensures { λ r. ⌜ Put (now (out .entry)) 0 (textOf f) (now (out .exit)) r ⌝ }
 {
@@ -248,7 +262,7 @@ pub fn put_text(out: &mut [u8], f: Fields) -> usize
     let first = put_name(out, f.row);
     let second = put_operand(out, first, first_operand(form, f));
     let third = put_next(out, second, second_operand(form, f));
-    if words::has_q(form) {
+    if is_long(form) {
         return third;
     }
     put_next(out, third, third_operand(form, f))
@@ -279,4 +293,30 @@ fn refuse(number: u8) -> Answer
     ensures { λ r. ⌜ (r .number ≡ number) × (r .value ≡ 0) ⌝ }
 {
     Answer { number, value: 0 }
+}
+
+// Whether the first six bytes are those of a row.
+fn is_named(text: &[u8], row: usize) -> bool
+    requires { ⌜ row < rows ⌝ }
+    ensures { λ r. ⌜ r ≡ sameBytes (keyOf row) (take keyBytes (now (text .entry))) ⌝ }
+{
+    if text.len() < KEY {
+        return false;
+    }
+    let key = name_of(row);
+    check::same(&key, &text[..KEY])
+}
+
+// The row that the first six bytes name, or the number of rows.
+pub fn row_named(text: &[u8]) -> usize
+    ensures { λ r. ⌜ r ≡ rowNamed (now (text .entry)) ⌝ }
+{
+    let mut i = 0;
+    while i < words::ROWS {
+        if is_named(text, i) {
+            return i;
+        }
+        i += 1;
+    }
+    i
 }

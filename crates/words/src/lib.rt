@@ -128,7 +128,7 @@ fn row_of(word: u32) -> usize
 }
 
 // The least size that a form allows.
-pub fn least_size(form: Form) -> usize
+fn least_size(form: Form) -> usize
     ensures { λ r. ⌜ r ≡ leastSize form ⌝ }
 {
     match form {
@@ -155,7 +155,7 @@ fn most_size(form: Form, q: usize) -> usize
 }
 
 // Whether a form allows a size.
-pub fn allows_size(form: Form, q: usize, size: usize) -> bool
+fn allows_size(form: Form, q: usize, size: usize) -> bool
     requires { ⌜ q < 2 ⌝ }
     ensures { λ r. ⌜ r ≡ allows form q size ⌝ }
 {
@@ -166,7 +166,7 @@ pub fn allows_size(form: Form, q: usize, size: usize) -> bool
 }
 
 // Whether a form names a governing predicate.
-pub fn is_governed(form: Form) -> bool
+fn is_governed(form: Form) -> bool
     ensures { λ r. ⌜ r ≡ isGoverned form ⌝ }
 {
     match form {
@@ -179,7 +179,7 @@ pub fn is_governed(form: Form) -> bool
 }
 
 // Whether it names a second source.
-pub fn has_second(form: Form) -> bool
+fn has_second(form: Form) -> bool
     ensures { λ r. ⌜ r ≡ hasSecond form ⌝ }
 {
     match form {
@@ -192,7 +192,7 @@ pub fn has_second(form: Form) -> bool
 }
 
 // Whether it has Q.
-pub fn has_q(form: Form) -> bool
+fn has_q(form: Form) -> bool
     ensures { λ r. ⌜ r ≡ hasQ form ⌝ }
 {
     match form {

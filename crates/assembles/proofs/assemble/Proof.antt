@@ -1,14 +1,14 @@
--- `assemble` meets its contract: what it answers reads as the text, and where it refuses, fields whose text this is would have been read.
+-- `assemble` meets its contract: the word that is read is named, and where its text is not this one no other word reads as it.
 -- Assumes nothing.
-use mathlib.Core.Path.{_≡_, sym, _∙_}
+use mathlib.Core.Path.{_≡_, sym, _∙_, ap}
 use mathlib.Core.Bool.{true, false}
-use mathlib.Core.List.{List}
-use Prim.Native.Nat.{ℕ}
+use Prim.Native.Nat.{ℕ, _≤_}
 use native.Mathlib.Omega.{arith}
-use Rattle.words.specs.Encode.{InRange}
-use Rattle.words.specs.declared.Fields.{Fields}
-use Rattle.assembles.specs.Reading.{fieldsFrom, Ranged}
-use Rattle.assembles.proofs.Assembling.{q-below, read-in-range, range-tested, assembled-done, assembled-none, read-only}
+use lib.Seq.{length-take-le}
+use Rattle.names.proofs.Longest.{mostText}
+use Rattle.names.proofs.Naming.{named-most}
+use Rattle.assembles.specs.Reading.{fieldsFrom, wordOf}
+use Rattle.assembles.proofs.Assembling.{assembled-done, assembled-none, checked, unchecked, word-below}
 use borrow.Author.Needs.{needs}
 use Rattle.assembles.proofs.assemble.Statement.{statement}
 use Rattle.assembles.proofs.assemble.Tie as tie
@@ -16,47 +16,81 @@ use Rattle.assembles.proofs.assemble.Tie as tie
 read-fields-requires : tie.Need-read-fields-requires
 read-fields-requires c κs = search needs
 
-is-ranged-requires : tie.Need-is-ranged-requires
-is-ranged-requires c κs = rw (c .read-fields .ensures) (q-below (c .before .before .args .text .now))
+encode-requires : tie.Need-encode-requires
+encode-requires c κs = search needs
 
--- fields that were read and passed the tests are in range
-in-range : (text : List ℕ) (f : Fields) → f ≡ fieldsFrom text → Ranged f → InRange f
-in-range text f e r = rw e (read-in-range text (rw e at r))
+cast-value : tie.Need-cast-value
+cast-value c = search needs
+
+slice-aggregate-text : tie.Need-slice-aggregate-text
+slice-aggregate-text c = search needs
+
+text-requires : tie.Need-text-requires
+text-requires c κs = search needs
+
+-- a text is shorter than the line
+short : (c : tie.After-text) → c .text .result .value ≤ mostText
+short c = named-most _ _ _ _ (c .text .ensures)
+
+-- the word is the one that is read
+read : (c : tie.After-encode) → c .encode .result ≡ wordOf (fieldsFrom (c .before .before .before .args .text .now))
+read c = c .encode .ensures ∙ ap wordOf (c .before .read-fields .ensures)
 
 -- an answer is not both
-differ : true ≡ false → ⊥
-differ e = let z : _≡_ {A = ℕ} 0 1 = cc in omega arith
+not-both : true ≡ false → ⊥
+not-both e = let z : _≡_ {A = ℕ} 0 1 = cc in omega arith
 
-is-text-of-requires : tie.Need-is-text-of-requires
-is-text-of-requires c κs = in-range (c .before .before .before .before .args .text .now) _ (c .before .before .read-fields .ensures) (c .before .is-ranged .ensures .0 (c .if1 .taken))
+array-share-prefix-line : tie.Need-array-share-prefix-line
+array-share-prefix-line c = omega (arith, short (c .before .before .before))
 
-encode-requires : tie.Need-encode-requires
-encode-requires c κs = in-range (c .before .before .before .before .before .before .args .text .now) _ (c .before .before .before .before .read-fields .ensures) (c .before .before .before .is-ranged .ensures .0 (c .before .before .if1 .taken))
+slice-aggregate-same : tie.Need-slice-aggregate-same
+slice-aggregate-same c = sym (length-take-le _ _ (omega (arith, short (c .before .before .before .before))))
+
+same-requires : tie.Need-same-requires
+same-requires c κs = search needs
 
 returns : tie.Need-returns
-returns c = assembled-done (c .before .before .before .before .before .before .before .args .text .now) (c .before .before .before .before .before .read-fields .result) _
-    (in-range (c .before .before .before .before .before .before .before .args .text .now) _ (c .before .before .before .before .before .read-fields .ensures) (c .before .before .before .before .is-ranged .ensures .0 (c .before .before .before .if1 .taken)))
-    (c .before .before .is-text-of .ensures .0 (c .before .if2 .taken))
-    (c .encode .ensures)
+returns c =
+    let same = c .before .same in
+    let if1 = c .before .before .before .if1 in
+    let text = c .before .before .before .before .before .before .text in
+    let encode = c .before .before .before .before .before .before .before .before .encode in
+    let read-fields = c .before .before .before .before .before .before .before .before .before .read-fields in
+    let at-args = c .before .before .before .before .before .before .before .before .before .before .before in
+    let args = at-args .args in
+    assembled-done _ _
+    (checked (args .text .now) _ _ _ _ (rw (encode .ensures) (word-below (read-fields .result))) (text .ensures) (if1 .taken)
+    (same .ensures .0 (c .if2 .taken)))
 
 returns-2 : tie.Need-returns-2
-returns-2 c = assembled-none (c .before .before .before .before .before .before .args .text .now) (λ f r e.
-    let read : c .before .before .before .before .read-fields .result ≡ f = c .before .before .before .before .read-fields .ensures ∙ read-only (c .before .before .before .before .before .before .args .text .now) f r e in
-    differ (sym (c .before .is-text-of .ensures .1 (rw read e)) ∙ c .if2 .left))
+returns-2 c =
+    let same = c .before .same in
+    let text = c .before .before .before .before .before .before .text in
+    let at-args = c .before .before .before .before .before .before .before .before .before .before .before in
+    let args = at-args .args in
+    assembled-none _
+    (unchecked (args .text .now) _ _ _ _ (read (c .before .before .before .before .before .before .before .before)) (omega arith) (text .ensures)
+    (λ n e. not-both (sym (same .ensures .1 e) ∙ c .if2 .left)))
 
 returns-3 : tie.Need-returns-3
-returns-3 c = assembled-none (c .before .before .before .before .args .text .now) (λ f r e.
-    let read : c .before .before .read-fields .result ≡ f = c .before .before .read-fields .ensures ∙ read-only (c .before .before .before .before .args .text .now) f r e in
-    differ (sym (c .before .is-ranged .ensures .1 (rw read (range-tested f r))) ∙ c .if1 .left))
+returns-3 c =
+    let text = c .before .before .before .text in
+    let args = c .before .before .before .before .before .before .before .before .args in
+    assembled-none _
+    (unchecked (args .text .now) _ _ _ _ (read (c .before .before .before .before .before)) (omega arith) (text .ensures) (λ n e. c .if1 .left n))
 
 pub assemble-spec : {M : Type 1} → statement M
 assemble-spec =
     tie.close
     (tie.spec
     read-fields-requires
-    is-ranged-requires
-    is-text-of-requires
     encode-requires
+    cast-value
+    slice-aggregate-text
+    text-requires
+    array-share-prefix-line
+    slice-aggregate-same
+    same-requires
     returns
     returns-2
     returns-3)

@@ -35,13 +35,26 @@ add-result : tie.Need-add-result
 add-result c = search needs
 
 returns : tie.Need-returns
-returns c = number-is (c .before .before .before .before .before .before .before .args .text .now) (c .before .before .before .before .before .before .before .args .at) _ _ _ _ true (c .before .before .before .before .before .byte-at .ensures) (c .before .before .before .before .byte-at2 .ensures) (sym (c .before .before .if1 .taken) ∙ c .before .before .before .is-digit .ensures) (c .before .worth .ensures) (c .worth2 .ensures)
+returns c =
+    let worth = c .before .worth in
+    let if1 = c .before .before .if1 in
+    let is-digit = c .before .before .before .is-digit in
+    let byte-at2 = c .before .before .before .before .byte-at2 in
+    let byte-at = c .before .before .before .before .before .byte-at in
+    let args = c .before .before .before .before .before .before .before .args in
+    number-is (args .text .now) (args .at) _ _ _ _ true (byte-at .ensures) (byte-at2 .ensures) (sym (if1 .taken) ∙ is-digit .ensures) (worth .ensures) (c .worth2 .ensures)
 
 worth-requires-3 : tie.Need-worth-requires-3
 worth-requires-3 c κs = search needs
 
 returns-2 : tie.Need-returns-2
-returns-2 c = number-is (c .before .before .before .before .before .before .args .text .now) (c .before .before .before .before .before .before .args .at) _ _ _ _ false (c .before .before .before .before .byte-at .ensures) (c .before .before .before .byte-at2 .ensures) (sym (c .before .if1 .left) ∙ c .before .before .is-digit .ensures) (c .worth3 .ensures) refl
+returns-2 c =
+    let if1 = c .before .if1 in
+    let is-digit = c .before .before .is-digit in
+    let byte-at2 = c .before .before .before .byte-at2 in
+    let byte-at = c .before .before .before .before .byte-at in
+    let args = c .before .before .before .before .before .before .args in
+    number-is (args .text .now) (args .at) _ _ _ _ false (byte-at .ensures) (byte-at2 .ensures) (sym (if1 .left) ∙ is-digit .ensures) (c .worth3 .ensures) refl
 
 pub number-at-spec : {M : Type 1} → statement M
 number-at-spec =

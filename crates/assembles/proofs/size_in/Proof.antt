@@ -1,8 +1,9 @@
--- `size_in` meets its contract: both numbers are small, and their sum is the definition's.
+-- `size_in` meets its contract: the place of the last byte among the letters.
 -- Assumes nothing.
-use native.Mathlib.Omega.{arith}
+use mathlib.Core.Path.{_∙_, ap}
+use Prim.Native.Nat.{ℕ}
 use Rattle.names.specs.Text.{letters}
-use Rattle.assembles.proofs.Scan.{place-most, least-most}
+use Rattle.assembles.specs.Reading.{placeOf}
 use borrow.Author.Needs.{needs}
 use Rattle.assembles.proofs.size_in.Statement.{statement}
 use Rattle.assembles.proofs.size_in.Tie as tie
@@ -13,16 +14,8 @@ byte-from-end-requires c κs = search needs
 size-of-requires : tie.Need-size-of-requires
 size-of-requires c κs = search needs
 
-least-size-requires : tie.Need-least-size-requires
-least-size-requires c κs = search needs
-
-add-result : tie.Need-add-result
-add-result c = omega (arith, c .before .size-of .ensures, place-most (c .before .before .byte-from-end .result) letters, c .least-size .ensures, least-most (c .before .before .before .before .args .form))
-
 returns : tie.Need-returns
-returns c = cc
+returns c = c .size-of .ensures ∙ ap (λ (b : ℕ). placeOf b letters) (c .before .byte-from-end .ensures)
 
 pub size-in-spec : {M : Type 1} → statement M
-size-in-spec =
-    tie.close
-    (tie.spec byte-from-end-requires size-of-requires least-size-requires add-result returns)
+size-in-spec = tie.close (tie.spec byte-from-end-requires size-of-requires returns)

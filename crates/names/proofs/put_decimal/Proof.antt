@@ -16,7 +16,11 @@ same-length : tie.Need-same-length
 same-length c = search needs
 
 returns : tie.Need-returns
-returns c = rw (decimal-one _ (c .before .before .before .before .before .if1 .taken), ← c .before .before .before .digit .ensures) (c .before .before .put .ensures)
+returns c =
+    let put = c .before .before .put in
+    let digit = c .before .before .before .digit in
+    let if1 = c .before .before .before .before .before .if1 in
+    rw (decimal-one _ (if1 .taken), ← digit .ensures) (put .ensures)
 
 digit-requires-2 : tie.Need-digit-requires-2
 digit-requires-2 c κs = search needs
@@ -34,7 +38,14 @@ same-length-2 : tie.Need-same-length-2
 same-length-2 c = search needs
 
 returns-2 : tie.Need-returns-2
-returns-2 c = rw (decimal-two _ (c .before .before .before .before .before .before .before .before .before .before .if1 .left), ← c .before .before .before .before .before .before .before .before .digit2 .ensures, ← c .before .before .before .digit3 .ensures) (put-then (c .before .before .before .before .before .before .before .put2 .ensures) (c .before .before .put3 .ensures))
+returns-2 c =
+    let put3 = c .before .before .put3 in
+    let digit3 = c .before .before .before .digit3 in
+    let put2 = c .before .before .before .before .before .before .before .put2 in
+    let digit2 = c .before .before .before .before .before .before .before .before .digit2 in
+    let at-if1 = c .before .before .before .before .before .before .before .before .before .before in
+    let if1 = at-if1 .if1 in
+    rw (decimal-two _ (if1 .left), ← digit2 .ensures, ← digit3 .ensures) (put-then (put2 .ensures) (put3 .ensures))
 
 pub put-decimal-spec : {M : Type 1} → statement M
 put-decimal-spec =

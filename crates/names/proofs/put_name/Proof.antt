@@ -25,13 +25,25 @@ same-length : tie.Need-same-length
 same-length c = search needs
 
 returns : tie.Need-returns
-returns c = rw (name-five _ (c .before .before .before .before .before .before .before .before .pre .1) (rw (c .before .before .before .before .before .before .name-of .ensures .0) at (c .if1 .taken)), ← c .before .before .before .before .before .before .name-of .ensures .0) (c .before .before .before .put-bytes .ensures)
+returns c =
+    let put-bytes = c .before .before .before .put-bytes in
+    let name-of = c .before .before .before .before .before .before .name-of in
+    let pre = c .before .before .before .before .before .before .before .before .pre in
+    rw (name-five _ (pre .1) (rw (name-of .ensures .0) at (c .if1 .taken)), ← name-of .ensures .0) (put-bytes .ensures)
 
 same-length-2 : tie.Need-same-length-2
 same-length-2 c = search needs
 
 returns-2 : tie.Need-returns-2
-returns-2 c = rw (name-six _ (c .before .before .before .before .before .before .before .before .before .before .before .before .pre .1) (rw (c .before .before .before .before .before .before .before .before .before .before .name-of .ensures .0) at (c .before .before .before .before .if1 .left)), ← c .before .before .before .before .before .before .before .before .before .before .name-of .ensures .0) (put-then (c .before .before .before .before .before .before .before .put-bytes .ensures) (c .before .before .put .ensures))
+returns-2 c =
+    let put = c .before .before .put in
+    let if1 = c .before .before .before .before .if1 in
+    let put-bytes = c .before .before .before .before .before .before .before .put-bytes in
+    let at-name-of = c .before .before .before .before .before .before .before .before .before .before in
+    let name-of = at-name-of .name-of in
+    let at-pre = at-name-of .before .before in
+    let pre = at-pre .pre in
+    rw (name-six _ (pre .1) (rw (name-of .ensures .0) at (if1 .left)), ← name-of .ensures .0) (put-then (put-bytes .ensures) (put .ensures))
 
 pub put-name-spec : {M : Type 1} → statement M
 put-name-spec =

@@ -14,13 +14,23 @@ put-decimal-requires : tie.Need-put-decimal-requires
 put-decimal-requires c κs = search needs
 
 put-suffix-requires : tie.Need-put-suffix-requires
-put-suffix-requires c κs = omega (arith, put-length (c .before .before .before .put-decimal .ensures), put-length (c .before .before .before .before .before .before .before .put .ensures), decimal-most (c .before .before .before .before .before .before .before .before .before .before .args .operand .number))
+put-suffix-requires c κs =
+    let put-decimal = c .before .before .before .put-decimal in
+    let put = c .before .before .before .before .before .before .before .put in
+    let at-args = c .before .before .before .before .before .before .before .before .before .before in
+    let args = at-args .args in
+    omega (arith, put-length (put-decimal .ensures), put-length (put .ensures), decimal-most (args .operand .number))
 
 same-length : tie.Need-same-length
 same-length c = search needs
 
 returns : tie.Need-returns
-returns c = put-then (put-then (c .before .before .before .before .before .before .before .before .before .before .put .ensures) (c .before .before .before .before .before .before .put-decimal .ensures)) (c .before .before .put-suffix .ensures)
+returns c =
+    let put-suffix = c .before .before .put-suffix in
+    let put-decimal = c .before .before .before .before .before .before .put-decimal in
+    let at-put = c .before .before .before .before .before .before .before .before .before .before in
+    let put = at-put .put in
+    put-then (put-then (put .ensures) (put-decimal .ensures)) (put-suffix .ensures)
 
 pub put-operand-spec : {M : Type 1} → statement M
 put-operand-spec =

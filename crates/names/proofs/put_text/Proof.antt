@@ -19,55 +19,110 @@ first-operand-requires : tie.Need-first-operand-requires
 first-operand-requires c κs = search needs
 
 put-operand-requires : tie.Need-put-operand-requires
-put-operand-requires c κs = omega (arith, put-length (c .before .before .before .before .put-name .ensures), c .before .before .before .before .put-name .ensures .after, name-most (c .before .before .before .before .before .before .before .before .args .f .row) (c .before .before .before .before .before .before .before .before .pre .1 .row))
+put-operand-requires c κs =
+    let put-name = c .before .before .before .before .put-name in
+    let args = c .before .before .before .before .before .before .before .before .args in
+    let pre = c .before .before .before .before .before .before .before .before .pre in
+    omega (arith, put-length (put-name .ensures), put-name .ensures .after, name-most (args .f .row) (pre .1 .row))
 
 second-operand-requires : tie.Need-second-operand-requires
 second-operand-requires c κs = search needs
 
 put-next-requires : tie.Need-put-next-requires
-put-next-requires c κs = omega (
-  arith,
-  put-length (c .before .before .before .before .put-operand .ensures),
-  c .before .before .before .before .put-operand .ensures .after,
-  operand-most (c .before .before .before .before .before .first-operand .result),
-  put-length (c .before .before .before .before .before .before .before .before .before .put-name .ensures),
-  c .before .before .before .before .before .before .before .before .before .put-name .ensures .after,
-  name-most (c .before .before .before .before .before .before .before .before .before .before .before .before .before .args .f .row) (c .before .before .before .before .before .before .before .before .before .before .before .before .before .pre .1 .row),
-)
+put-next-requires c κs =
+    let put-operand = c .before .before .before .before .put-operand in
+    let first-operand = c .before .before .before .before .before .first-operand in
+    let put-name = c .before .before .before .before .before .before .before .before .before .put-name in
+    let at-args = c .before .before .before .before .before .before .before .before .before .before .before .before .before in
+    let args = at-args .args in
+    let pre = at-args .pre in
+    omega (
+      arith,
+      put-length (put-operand .ensures),
+      put-operand .ensures .after,
+      operand-most (first-operand .result),
+      put-length (put-name .ensures),
+      put-name .ensures .after,
+      name-most (args .f .row) (pre .1 .row),
+    )
 
-has-q-requires : tie.Need-has-q-requires
-has-q-requires c κs = search needs
+is-long-requires : tie.Need-is-long-requires
+is-long-requires c κs = search needs
 
 same-length : tie.Need-same-length
 same-length c = search needs
 
 returns : tie.Need-returns
-returns c = rw (text-two (c .before .before .before .before .before .before .before .before .before .before .before .before .before .before .before .before .before .before .args .f) _ (c .before .before .before .before .before .before .before .before .before .before .before .before .before .before .before .before .form-of .ensures) _ _ (sym (c .before .has-q .ensures) ∙ c .if1 .taken) (c .before .before .before .before .before .before .before .before .before .before .first-operand .ensures) (c .before .before .before .before .before .second-operand .ensures))
-    (put-then (put-then (c .before .before .before .before .before .before .before .before .before .before .before .before .before .before .put-name .ensures) (c .before .before .before .before .before .before .before .before .before .put-operand .ensures)) (c .before .before .before .before .put-next .ensures))
+returns c =
+    let is-long = c .before .is-long in
+    let put-next = c .before .before .before .before .put-next in
+    let second-operand = c .before .before .before .before .before .second-operand in
+    let put-operand = c .before .before .before .before .before .before .before .before .before .put-operand in
+    let at-first-operand = c .before .before .before .before .before .before .before .before .before .before in
+    let first-operand = at-first-operand .first-operand in
+    let at-put-name = at-first-operand .before .before .before .before in
+    let put-name = at-put-name .put-name in
+    let at-form-of = at-put-name .before .before in
+    let form-of = at-form-of .form-of in
+    let at-args = at-form-of .before .before in
+    let args = at-args .args in
+    rw (text-two (args .f) _ (form-of .ensures) _ _ (sym (is-long .ensures) ∙ c .if1 .taken) (first-operand .ensures) (second-operand .ensures))
+    (put-then (put-then (put-name .ensures) (put-operand .ensures)) (put-next .ensures))
 
 third-operand-requires : tie.Need-third-operand-requires
 third-operand-requires c κs = search needs
 
 put-next-requires-2 : tie.Need-put-next-requires-2
-put-next-requires-2 c κs = omega (
-  arith,
-  put-length (c .before .before .before .before .before .before .put-next .ensures),
-  c .before .before .before .before .before .before .put-next .ensures .after,
-  operand-most (c .before .before .before .before .before .before .before .second-operand .result),
-  put-length (c .before .before .before .before .before .before .before .before .before .before .before .put-operand .ensures),
-  c .before .before .before .before .before .before .before .before .before .before .before .put-operand .ensures .after,
-  operand-most (c .before .before .before .before .before .before .before .before .before .before .before .before .first-operand .result),
-  put-length (c .before .before .before .before .before .before .before .before .before .before .before .before .before .before .before .before .put-name .ensures),
-  c .before .before .before .before .before .before .before .before .before .before .before .before .before .before .before .before .put-name .ensures .after,
-  name-most (c .before .before .before .before .before .before .before .before .before .before .before .before .before .before .before .before .before .before .before .before .args .f .row) (c .before .before .before .before .before .before .before .before .before .before .before .before .before .before .before .before .before .before .before .before .pre .1 .row),
-)
+put-next-requires-2 c κs =
+    let put-next = c .before .before .before .before .before .before .put-next in
+    let second-operand = c .before .before .before .before .before .before .before .second-operand in
+    let at-put-operand = c .before .before .before .before .before .before .before .before .before .before .before in
+    let put-operand = at-put-operand .put-operand in
+    let at-first-operand = at-put-operand .before in
+    let first-operand = at-first-operand .first-operand in
+    let at-put-name = at-first-operand .before .before .before .before in
+    let put-name = at-put-name .put-name in
+    let at-args = at-put-name .before .before .before .before in
+    let args = at-args .args in
+    let pre = at-args .pre in
+    omega (
+      arith,
+      put-length (put-next .ensures),
+      put-next .ensures .after,
+      operand-most (second-operand .result),
+      put-length (put-operand .ensures),
+      put-operand .ensures .after,
+      operand-most (first-operand .result),
+      put-length (put-name .ensures),
+      put-name .ensures .after,
+      name-most (args .f .row) (pre .1 .row),
+    )
 
 same-length-2 : tie.Need-same-length-2
 same-length-2 c = search needs
 
 returns-2 : tie.Need-returns-2
-returns-2 c = rw (text-three (c .before .before .before .before .before .before .before .before .before .before .before .before .before .before .before .before .before .before .before .before .before .before .before .args .f) _ (c .before .before .before .before .before .before .before .before .before .before .before .before .before .before .before .before .before .before .before .before .before .form-of .ensures) _ _ _ (sym (c .before .before .before .before .before .before .has-q .ensures) ∙ c .before .before .before .before .before .if1 .left) (c .before .before .before .before .before .before .before .before .before .before .before .before .before .before .before .first-operand .ensures) (c .before .before .before .before .before .before .before .before .before .before .second-operand .ensures) (c .before .before .before .third-operand .ensures))
-    (put-then (put-then (put-then (c .before .before .before .before .before .before .before .before .before .before .before .before .before .before .before .before .before .before .before .put-name .ensures) (c .before .before .before .before .before .before .before .before .before .before .before .before .before .before .put-operand .ensures)) (c .before .before .before .before .before .before .before .before .before .put-next .ensures)) (c .before .before .put-next2 .ensures))
+returns-2 c =
+    let put-next2 = c .before .before .put-next2 in
+    let third-operand = c .before .before .before .third-operand in
+    let if1 = c .before .before .before .before .before .if1 in
+    let is-long = c .before .before .before .before .before .before .is-long in
+    let put-next = c .before .before .before .before .before .before .before .before .before .put-next in
+    let at-second-operand = c .before .before .before .before .before .before .before .before .before .before in
+    let second-operand = at-second-operand .second-operand in
+    let at-put-operand = at-second-operand .before .before .before .before in
+    let put-operand = at-put-operand .put-operand in
+    let at-first-operand = at-put-operand .before in
+    let first-operand = at-first-operand .first-operand in
+    let at-put-name = at-first-operand .before .before .before .before in
+    let put-name = at-put-name .put-name in
+    let at-form-of = at-put-name .before .before in
+    let form-of = at-form-of .form-of in
+    let at-args = at-form-of .before .before in
+    let args = at-args .args in
+    rw (text-three (args .f) _ (form-of .ensures) _ _ _
+    (sym (is-long .ensures) ∙ if1 .left) (first-operand .ensures) (second-operand .ensures) (third-operand .ensures))
+    (put-then (put-then (put-then (put-name .ensures) (put-operand .ensures)) (put-next .ensures)) (put-next2 .ensures))
 
 pub put-text-spec : {M : Type 1} → statement M
 put-text-spec =
@@ -79,7 +134,7 @@ put-text-spec =
     put-operand-requires
     second-operand-requires
     put-next-requires
-    has-q-requires
+    is-long-requires
     same-length
     returns
     third-operand-requires

@@ -36,21 +36,40 @@ enum-known-fields : tie.Need-enum-known-fields
 enum-known-fields c = search needs
 
 put-text-requires : tie.Need-put-text-requires
-put-text-requires c κs = (c .before .before .before .before .before .if1 .left, decoded-in-range _ _ (sym (c .before .before .before .before .decode .ensures) ∙ c .before .before .fields .given .1))
+put-text-requires c κs =
+    let fields = c .before .before .fields in
+    let decode = c .before .before .before .before .decode in
+    let if1 = c .before .before .before .before .before .if1 in
+    (if1 .left, decoded-in-range _ _ (sym (decode .ensures) ∙ fields .given .1))
 
 returns-2 : tie.Need-returns-2
-returns-2 c = named-unknown _ _ _ (c .before .before .before .before .if1 .left) (sym (c .before .before .before .decode .ensures) ∙ c .before .enum-told .given .1) (c .refuse2 .ensures)
+returns-2 c =
+    let enum-told = c .before .enum-told in
+    let decode = c .before .before .before .decode in
+    let if1 = c .before .before .before .before .if1 in
+    named-unknown _ _ _ (if1 .left) (sym (decode .ensures) ∙ enum-told .given .1) (c .refuse2 .ensures)
 
 returns-3 : tie.Need-returns-3
-returns-3 c = named-undefined _ _ _ (c .before .before .before .before .if1 .left) (sym (c .before .before .before .decode .ensures) ∙ c .before .enum-told2 .given .1) (c .refuse3 .ensures)
+returns-3 c =
+    let enum-told2 = c .before .enum-told2 in
+    let decode = c .before .before .before .decode in
+    let if1 = c .before .before .before .before .if1 in
+    named-undefined _ _ _ (if1 .left) (sym (decode .ensures) ∙ enum-told2 .given .1) (c .refuse3 .ensures)
 
 same-length : tie.Need-same-length
 same-length c = search needs
 
 returns-4 : tie.Need-returns-4
-returns-4 c = let is : decoded (c .before .before .before .before .before .before .before .before .before .before .args .word) ≡ Word (c .before .before .before .before .before .fields .given .0 .0) = sym (c .before .before .before .before .before .before .before .decode .ensures) ∙ c .before .before .before .before .before .fields .given .1 in
-    let fits = text-length (c .before .before .before .before .before .fields .given .0 .0) (decoded-in-range _ _ is .row) in
-    named-done _ _ _ _ _ (c .before .before .before .before .before .before .before .before .if1 .left) is (omega (arith, c .before .before .before .before .before .before .before .before .if1 .left)) (c .before .before .put-text .ensures)
+returns-4 c =
+    let put-text = c .before .before .put-text in
+    let fields = c .before .before .before .before .before .fields in
+    let decode = c .before .before .before .before .before .before .before .decode in
+    let if1 = c .before .before .before .before .before .before .before .before .if1 in
+    let at-args = c .before .before .before .before .before .before .before .before .before .before in
+    let args = at-args .args in
+    let is : decoded (args .word) ≡ Word (fields .given .0 .0) = sym (decode .ensures) ∙ fields .given .1 in
+    let fits = text-length (fields .given .0 .0) (decoded-in-range _ _ is .row) in
+    named-done _ _ _ _ _ (if1 .left) is (omega (arith, if1 .left)) (put-text .ensures)
 
 pub text-spec : {M : Type 1} → statement M
 text-spec =

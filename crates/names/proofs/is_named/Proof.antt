@@ -2,10 +2,10 @@
 -- Assumes nothing.
 use mathlib.Core.Path.{sym}
 use lib.Seq.{length-take-le}
-use Rattle.assembles.proofs.Scan.{short-not, same-is}
+use Rattle.names.proofs.Keys.{short-not, same-is}
 use borrow.Author.Needs.{needs}
-use Rattle.assembles.proofs.is_named.Statement.{statement}
-use Rattle.assembles.proofs.is_named.Tie as tie
+use Rattle.names.proofs.is_named.Statement.{statement}
+use Rattle.names.proofs.is_named.Tie as tie
 
 returns : tie.Need-returns
 returns c = sym (short-not _ (c .before .before .args .text .now) (c .before .before .pre) (c .if1 .taken))

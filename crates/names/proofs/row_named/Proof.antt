@@ -6,11 +6,10 @@ use Prim.Native.Nat.{ℕ, _≤_, _-_}
 use native.Mathlib.Omega.{arith}
 use lib.ListN.{take, drop}
 use Rattle.words.specs.Table.{rows}
-use Rattle.names.specs.Text.{keyBytes}
-use Rattle.assembles.specs.Reading.{keys, keyFrom, rowNamed}
-use Rattle.assembles.proofs.Scan.{key-here, key-next}
-use Rattle.assembles.proofs.row_named.Statement.{statement}
-use Rattle.assembles.proofs.row_named.Tie as tie
+use Rattle.names.specs.Text.{keyBytes, keys, keyFrom, rowNamed}
+use Rattle.names.proofs.Keys.{key-here, key-next}
+use Rattle.names.proofs.row_named.Statement.{statement}
+use Rattle.names.proofs.row_named.Tie as tie
 
 abbrev Inv-loop : tie.InvT-loop
 Inv-loop text i₀ i = (i ≤ rows) × (keyFrom i (drop i keys) (take keyBytes text) ≡ rowNamed text)
@@ -26,7 +25,11 @@ is-named-requires : tie.Need-is-named-requires Inv-loop μ-loop
 is-named-requires c κs = omega arith
 
 returns : tie.Need-returns Inv-loop μ-loop
-returns c = sym (key-here _ _ (c .before .before .loop-test .taken) (sym (c .before .is-named .ensures) ∙ c .if1 .taken)) ∙ c .before .before .before .loop .inv .1
+returns c =
+    let is-named = c .before .is-named in
+    let loop-test = c .before .before .loop-test in
+    let loop = c .before .before .before .loop in
+    sym (key-here _ _ (loop-test .taken) (sym (is-named .ensures) ∙ c .if1 .taken)) ∙ loop .inv .1
 
 add-i : tie.Need-add-i Inv-loop μ-loop
 add-i c = omega arith
@@ -35,10 +38,13 @@ loop-less : tie.Need-loop-less Inv-loop μ-loop
 loop-less c = omega arith
 
 loop-again : tie.Need-loop-again Inv-loop μ-loop
-loop-again c = (
-  omega arith,
-  sym (key-next _ _ (c .before .before .loop-test .taken) (sym (c .before .is-named .ensures) ∙ c .if1 .left)) ∙ c .before .before .before .loop .inv .1,
-)
+loop-again c =
+    let is-named = c .before .is-named in
+    let loop-test = c .before .before .loop-test in
+    let loop = c .before .before .before .loop in (
+      omega arith,
+      sym (key-next _ _ (loop-test .taken) (sym (is-named .ensures) ∙ c .if1 .left)) ∙ loop .inv .1,
+    )
 
 -- past the last row the search stops
 past : (i : ℕ) (text : List ℕ) → i ≡ rows → keyFrom i (drop i keys) (take keyBytes text) ≡ rowNamed text → i ≡ rowNamed text

@@ -1,0 +1,33 @@
+-- The texts of document 01's session and of M12, and one of each form beside them, computed. A word that is refused has none.
+-- Assumes nothing.
+use mathlib.Core.Path.{_≡_, refl}
+use mathlib.Core.List.{[], _∷_, map}
+use Rattle.words.specs.Digits.{digitsAnd}
+use Rattle.words.specs.Table.{rowOf, matches, placeFrom}
+use Rattle.words.specs.Decode.{decoded}
+use Rattle.names.specs.Text.{bytes, nameOf, decimal, letterOf, textOf}
+use Rattle.names.specs.Named.{textOfWord}
+
+pub example-texts : map textOfWord
+    (0x04002020
+    ∷ 0x2E303822
+    ∷ 0x45410023
+    ∷ 0x04C02020
+    ∷ 0x2EB03800
+    ∷ 0x45000000
+    ∷ 0x6EB03800
+    ∷ 0x04053FFF
+    ∷ 0x4445BFFF
+    ∷ [])
+    ≡ bytes "saddv d0, p0, z1.b"
+    ∷ bytes "uaddlv h2, v1.8b"
+    ∷ bytes "saddlb z3.h, z1.b, z1.b"
+    ∷ []
+    ∷ []
+    ∷ []
+    ∷ bytes "uaddlv d0, v0.4s"
+    ∷ bytes "addqv v31.16b, p7, z31.b"
+    ∷ bytes "uadalp z31.h, p7/m, z31.b"
+    ∷ []
+unfolding decoded rowOf placeFrom matches digitsAnd textOf nameOf decimal letterOf
+example-texts = refl
