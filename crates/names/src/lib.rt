@@ -254,7 +254,7 @@ fn is_long(form: Form) -> bool
 }
 
 // Writes the text of a word with these fields at the front, and answers its length.
-fn put_text(out: &mut [u8], f: Fields) -> usize
+pub fn put_text(out: &mut [u8], f: Fields) -> usize
     requires { ⌜ (leastOut ≤ length (now out)) × InRange f ⌝ }
     ensures { λ r. ⌜ Put (now (out .entry)) 0 (textOf f) (now (out .exit)) r ⌝ }
 {

@@ -1,0 +1,6 @@
+pub mod Digits
+pub mod Reading
+pub mod Part
+pub mod Numerals
+pub mod Lines
+pub mod Outputs

@@ -1,0 +1,22 @@
+-- `put_decimal` meets its contract: as many digits as the number has.
+-- Assumes nothing.
+use native.Mathlib.Omega.{arith}
+use Rattle.session.proofs.Digits.{width-most}
+use borrow.Author.Needs.{needs}
+use Rattle.session.proofs.line.put_decimal.Statement.{statement}
+use Rattle.session.proofs.line.put_decimal.Tie as tie
+
+width-of-requires : tie.Need-width-of-requires
+width-of-requires c κs = search needs
+
+put-digits-requires : tie.Need-put-digits-requires
+put-digits-requires c κs = (omega arith, omega arith, omega (arith, width-most (c .before .before .before .args .n), c .width-of .ensures))
+
+same-length : tie.Need-same-length
+same-length c = search needs
+
+returns : tie.Need-returns
+returns c = rw (← c .before .before .before .width-of .ensures) (c .before .before .put-digits .ensures)
+
+pub put-decimal-spec : {M : Type 1} → statement M
+put-decimal-spec = tie.close (tie.spec width-of-requires put-digits-requires same-length returns)

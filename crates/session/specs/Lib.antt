@@ -1,0 +1,4 @@
+pub mod Layout
+pub mod Digits
+pub mod Line
+pub mod Output
