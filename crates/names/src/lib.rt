@@ -1,17 +1,21 @@
 // A word's text: its name and its operands, written into what the caller lends.
+mod row;
+
 use machine::Answer;
 use machine::refusal;
+use row::name_of;
+pub use row::row_named;
 use words::Decoded;
 use words::Fields;
 use words::Form;
 ghost use mathlib.Core.Path.{_≡_};
 ghost use mathlib.Core.List.{[], _∷_, _++_};
 ghost use Prim.Native.Nat.{_+_, _-_, _≤_, _<_};
-ghost use lib.ListN.{length, take};
+ghost use lib.ListN.{length};
 ghost use Rattle.words.specs.Table.{rows};
 ghost use Rattle.words.specs.Decode.{hasQ};
 ghost use Rattle.words.specs.Encode.{InRange};
-ghost use Rattle.names.specs.Text.{bytes, sameBytes, nameOf, keyBytes, keyOf, rowNamed, digit, decimal, sizes, letterOf, lanesOf, suffixText, operand, operandText, operandAt, textOf};
+ghost use Rattle.names.specs.Text.{bytes, nameOf, digit, decimal, sizes, letterOf, lanesOf, suffixText, operand, operandText, operandAt, textOf};
 ghost use Rattle.names.specs.Named.{leastOut, Put, Named};
 
 // What follows a register's number: nothing, the lanes' size, their count and size, or that inactive lanes merge.
@@ -28,24 +32,6 @@ pub struct Operand {
     pub number: usize,
     pub suffix: Suffix,
 }
-
-// The first six bytes of a text of each row: the name, with its space where it has five letters.
-const NAMES: [[u8; KEY]; words::ROWS] = [
-    *b"saddv ",
-    *b"uaddv ",
-    *b"addqv ",
-    *b"saddlv",
-    *b"uaddlv",
-    *b"sadalp",
-    *b"uadalp",
-    *b"saddlb",
-    *b"saddlt",
-    *b"uaddlb",
-    *b"uaddlt",
-];
-
-// How many bytes tell a text's row.
-const KEY: usize = 6;
 
 // The letters of the sizes.
 const LETTERS: [u8; SIZES] = *b"bhsd";
@@ -153,14 +139,6 @@ fn put_next(out: &mut [u8], at: usize, operand: Operand) -> usize
 {
     let next = put_bytes(out, at, b", ");
     put_operand(out, next, operand)
-}
-
-// The first six bytes of a text of a row.
-fn name_of(row: usize) -> [u8; KEY]
-    requires { ⌜ row < rows ⌝ }
-    ensures { λ r. ⌜ (r ≡ keyOf row) × (keyBytes ≡ length r) ⌝ }
-{
-    NAMES[row]
 }
 
 // Writes a row's name and the space after it at the front.
@@ -293,30 +271,4 @@ fn refuse(number: u8) -> Answer
     ensures { λ r. ⌜ (r .number ≡ number) × (r .value ≡ 0) ⌝ }
 {
     Answer { number, value: 0 }
-}
-
-// Whether the first six bytes are those of a row.
-fn is_named(text: &[u8], row: usize) -> bool
-    requires { ⌜ row < rows ⌝ }
-    ensures { λ r. ⌜ r ≡ sameBytes (keyOf row) (take keyBytes (now (text .entry))) ⌝ }
-{
-    if text.len() < KEY {
-        return false;
-    }
-    let key = name_of(row);
-    check::same(&key, &text[..KEY])
-}
-
-// The row that the first six bytes name, or the number of rows.
-pub fn row_named(text: &[u8]) -> usize
-    ensures { λ r. ⌜ r ≡ rowNamed (now (text .entry)) ⌝ }
-{
-    let mut i = 0;
-    while i < words::ROWS {
-        if is_named(text, i) {
-            return i;
-        }
-        i += 1;
-    }
-    i
 }

@@ -4,8 +4,8 @@ use mathlib.Core.Path.{sym, _∙_, ap}
 use lib.ListN.{length}
 use Rattle.names.proofs.Rows.{key-at, row-good}
 use borrow.Author.Needs.{needs}
-use Rattle.names.proofs.name_of.Statement.{statement}
-use Rattle.names.proofs.name_of.Tie as tie
+use Rattle.names.proofs.row.name_of.Statement.{statement}
+use Rattle.names.proofs.row.name_of.Tie as tie
 
 mul-result : tie.Need-mul-result
 mul-result c = search needs

@@ -8,8 +8,8 @@ use lib.ListN.{take, drop}
 use Rattle.words.specs.Table.{rows}
 use Rattle.names.specs.Text.{keyBytes, keys, keyFrom, rowNamed}
 use Rattle.names.proofs.Keys.{key-here, key-next}
-use Rattle.names.proofs.row_named.Statement.{statement}
-use Rattle.names.proofs.row_named.Tie as tie
+use Rattle.names.proofs.row.row_named.Statement.{statement}
+use Rattle.names.proofs.row.row_named.Tie as tie
 
 abbrev Inv-loop : tie.InvT-loop
 Inv-loop text i₀ i = (i ≤ rows) × (keyFrom i (drop i keys) (take keyBytes text) ≡ rowNamed text)

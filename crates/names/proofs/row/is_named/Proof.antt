@@ -4,8 +4,8 @@ use mathlib.Core.Path.{sym}
 use lib.Seq.{length-take-le}
 use Rattle.names.proofs.Keys.{short-not, same-is}
 use borrow.Author.Needs.{needs}
-use Rattle.names.proofs.is_named.Statement.{statement}
-use Rattle.names.proofs.is_named.Tie as tie
+use Rattle.names.proofs.row.is_named.Statement.{statement}
+use Rattle.names.proofs.row.is_named.Tie as tie
 
 returns : tie.Need-returns
 returns c = sym (short-not _ (c .before .before .args .text .now) (c .before .before .pre) (c .if1 .taken))

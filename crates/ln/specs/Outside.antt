@@ -1,0 +1,59 @@
+-- What a host is handed: the library's answers as records of C.
+use Prim.Native.Nat.{ℕ, zero, suc}
+use mathlib.Core.Bool.{Bool, true, false, not}
+use lib.Dec.{eqb}
+use Rattle.machine.specs.declared.Answer.{Answer}
+use Rattle.words.specs.Decode.{numberOf, fieldsOf}
+use Rattle.words.specs.declared.Decoded.{Decoded}
+use Rattle.words.specs.declared.Fields.{Fields}
+use Rattle.pane.specs.declared.Kind.{Kind}
+use Rattle.pane.specs.declared.Kind.the-variants.{Vector, Predicate}
+use Rattle.pane.specs.declared.reader.Next.{Next}
+use Rattle.pane.specs.Register.{sizeOf, startOf}
+use Rattle.ln.specs.declared.LnAnswer.{LnAnswer}
+use Rattle.ln.specs.declared.LnFields.{LnFields}
+use Rattle.ln.specs.declared.LnPlace.{LnPlace}
+use Rattle.session.specs.declared.Session.{Session}
+use Rattle.ln.specs.declared.LnSession.{LnSession}
+use Rattle.ln.specs.declared.LnWord.{LnWord}
+
+-- a flag of C: every number but 0 says yes
+abbrev pub isSet : ℕ → Bool
+isSet n = not (eqb n 0)
+
+-- the answer with the number as wide as the value, and back
+abbrev pub answerOut : Answer → LnAnswer
+answerOut a = record { number = a .number; value = a .value }
+
+abbrev pub answerIn : LnAnswer → Answer
+answerIn a = record { number = a .number; value = a .value }
+
+-- a number with a word's fields
+abbrev pub fieldsOut : ℕ → Fields → LnFields
+fieldsOut n f = record { number = n; row = f .row; size = f .size; n = f .n; d = f .d; g = f .g; m = f .m; q = f .q }
+
+abbrev pub decodedOut : Decoded → LnFields
+decodedOut d = fieldsOut (numberOf d) (fieldsOf d)
+
+-- the kind that a flag names
+abbrev pub kindOf : Bool → Kind
+kindOf false = Vector
+kindOf true = Predicate
+
+-- where a register stands: whether in the predicate file, its first byte and its bytes; zeros with a refusal
+abbrev pub flagOf : Kind → ℕ
+flagOf Vector = 0
+flagOf Predicate = 1
+
+abbrev pub placeOut : ℕ → ℕ → Kind → ℕ → LnPlace
+placeOut zero k kind r = record { number = 0; predicate = flagOf kind; start = startOf k kind r; bytes = sizeOf k kind }
+placeOut (suc n) k kind r = record { number = suc n; predicate = 0; start = 0; bytes = 0 }
+
+-- the next word of a program
+abbrev pub wordOut : Next → LnWord
+wordOut n = record { number = n .number; word = n .word; at = n .at }
+
+-- a session's length, count and places
+abbrev pub sessionOut : Session → LnSession
+sessionOut s =
+    record { number = s .number; k = s .k; count = s .count; vectors = s .vectors; predicates = s .predicates; program = s .program }

@@ -1,0 +1,346 @@
+// The library in a host's hands: thin calls under one prefix, for C and Rust. A slice is a pointer and then a length.
+use machine::Length;
+use machine::refusal;
+use pane::Kind;
+use words::Decoded;
+ghost use mathlib.Core.Path.{_≡_};
+ghost use mathlib.Core.Bool.{true, false};
+ghost use mathlib.Core.List.{[], _∷_, _++_};
+ghost use Prim.Native.Nat.{_+_, _≤_};
+ghost use lib.ListN.{length, take, drop};
+ghost use Rattle.machine.specs.Size.{segmentBytes};
+ghost use Rattle.words.specs.Decode.{decoded, noFields};
+ghost use Rattle.names.specs.Named.{Named};
+ghost use Rattle.assembles.specs.Assembled.{Assembled};
+ghost use Rattle.pane.specs.Register.{registerRefused};
+ghost use Rattle.pane.specs.Word.{nextWord};
+ghost use Rattle.sums.specs.Calls.{subtotalAnswer};
+ghost use Rattle.journal.specs.Calls.{freshRefused, freshAfter, stepRefused, stepVectors, stepJournal, backRefused, backVectors, backJournal};
+ghost use Rattle.session.specs.Layout.{sessionOf};
+ghost use Rattle.session.specs.Line.{lineRefused, stepLine, Written};
+ghost use Rattle.ln.specs.Lent.{panelBytes, joined, panelWrittenRefused, panelWritten};
+ghost use Rattle.ln.specs.Outside.{isSet, answerOut, answerIn, decodedOut, fieldsOut, flagOf, kindOf, placeOut, sessionOut, wordOut};
+
+// An answer with a value, which is 0 with a refusal.
+#[repr(C)]
+pub struct LnAnswer {
+    pub number: u64,
+    pub value: u64,
+}
+
+// A word's fields, which are 0 with a refusal.
+#[repr(C)]
+pub struct LnFields {
+    pub number: u64,
+    pub row: u64,
+    pub size: u64,
+    pub n: u64,
+    pub d: u64,
+    pub g: u64,
+    pub m: u64,
+    pub q: u64,
+}
+
+// Where a register stands: in which file, its first byte and how many; 0 with a refusal.
+#[repr(C)]
+pub struct LnPlace {
+    pub number: u64,
+    pub predicate: u64,
+    pub start: u64,
+    pub bytes: u64,
+}
+
+// A program's word and the place after it; with a refusal 0 and the place unmoved.
+#[repr(C)]
+pub struct LnWord {
+    pub number: u64,
+    pub word: u64,
+    pub at: u64,
+}
+
+// A session's length and count, and where its files and its program lie in the bytes; 0 with a refusal.
+#[repr(C)]
+pub struct LnSession {
+    pub number: u64,
+    pub k: u64,
+    pub count: u64,
+    pub vectors: u64,
+    pub predicates: u64,
+    pub program: u64,
+}
+
+// A word's fields, or UNKNOWN or UNDEFINED.
+#[no_mangle]
+pub extern "C" fn ln_decode(word: u32) -> LnFields
+    ensures { λ r. ⌜ r ≡ decodedOut (decoded word) ⌝ }
+{
+    match words::decode(word) {
+        Decoded::Word(f) => LnFields {
+            number: refusal::DONE as u64,
+            row: f.row as u64,
+            size: f.size as u64,
+            n: f.n as u64,
+            d: f.d as u64,
+            g: f.g as u64,
+            m: f.m as u64,
+            q: f.q as u64,
+        },
+        Decoded::Unknown => no_fields(refusal::UNKNOWN),
+        Decoded::Undefined => no_fields(refusal::UNDEFINED),
+    }
+}
+
+// A refusal with no fields.
+fn no_fields(number: u8) -> LnFields
+    ensures { λ r. ⌜ r ≡ fieldsOut number noFields ⌝ }
+{
+    LnFields {
+        number: number as u64,
+        row: 0,
+        size: 0,
+        n: 0,
+        d: 0,
+        g: 0,
+        m: 0,
+        q: 0,
+    }
+}
+
+// A word's text at the front of the output, or OUT, UNKNOWN or UNDEFINED.
+#[no_mangle]
+pub extern "C" fn ln_text(word: u32, out: &mut [u8]) -> LnAnswer
+    ensures { λ r. ⌜ Named word (now (out .entry)) (now (out .exit)) (answerIn r) ⌝ }
+{
+    let answer = names::text(word, out);
+    LnAnswer {
+        number: answer.number as u64,
+        value: answer.value,
+    }
+}
+
+// The accepted word that reads as a text, or TEXT.
+#[no_mangle]
+pub extern "C" fn ln_assemble(text: &[u8]) -> LnAnswer
+    ensures { λ r. ⌜ Assembled (now (text .entry)) (answerIn r) ⌝ }
+{
+    let answer = assembles::assemble(text);
+    LnAnswer {
+        number: answer.number as u64,
+        value: answer.value,
+    }
+}
+
+// The sum of the active lanes from a up to but without b, or LENGTH, FILE or RANGE.
+#[no_mangle]
+pub extern "C" fn ln_subtotal(
+    k: usize,
+    z: &[u8],
+    p: &[u8],
+    source: usize,
+    governing: usize,
+    size: usize,
+    is_signed: u64,
+    a: usize,
+    b: usize,
+) -> LnAnswer
+    ensures { λ r. ⌜ r ≡ answerOut (subtotalAnswer k (now (z .entry)) (now (p .entry)) source governing size (isSet «is_signed») a b) ⌝ }
+{
+    let signed = is_signed != 0;
+    let answer = sums::subtotal(k, z, p, source, governing, size, signed, a, b);
+    LnAnswer {
+        number: answer.number as u64,
+        value: answer.value,
+    }
+}
+
+// The word at a place of a program with the place after it, or PROGRAM or END.
+#[no_mangle]
+pub extern "C" fn ln_read_word(program: &[u8], at: usize) -> LnWord
+    ensures { λ r. ⌜ r ≡ wordOut (nextWord (now (program .entry)) at) ⌝ }
+{
+    let next = pane::reader::next_word(program, at);
+    LnWord {
+        number: next.number as u64,
+        word: next.word as u64,
+        at: next.at as u64,
+    }
+}
+
+// Where a session's parts lie, or SESSION.
+#[no_mangle]
+pub extern "C" fn ln_read_session(bytes: &[u8]) -> LnSession
+    ensures { λ r. ⌜ r ≡ sessionOut (sessionOf (now (bytes .entry))) ⌝ }
+{
+    let session = session::read_session(bytes);
+    LnSession {
+        number: session.number as u64,
+        k: session.k as u64,
+        count: session.count as u64,
+        vectors: session.vectors as u64,
+        predicates: session.predicates as u64,
+        program: session.program as u64,
+    }
+}
+
+// The line of a step at the front of the output, or LENGTH, FILE, PROGRAM, END, OUT, UNKNOWN or UNDEFINED.
+#[no_mangle]
+pub extern "C" fn ln_write_line<'a>(
+    out: &mut [u8],
+    k: usize,
+    z: &'a [u8],
+    p: &'a [u8],
+    program: &[u8],
+    position: usize,
+    number: u8,
+) -> LnAnswer
+    ensures { λ r. ⌜ Written (lineRefused k (now (z .entry)) (now (p .entry)) (now (program .entry)) position number (length (now (out .entry)))) (stepLine k (now (z .entry)) (now (program .entry)) position number) (now (out .entry)) (now (out .exit)) (answerIn r) ⌝ }
+{
+    let answer = session::line::write_line(out, k, z, p, program, position, number);
+    LnAnswer {
+        number: answer.number as u64,
+        value: answer.value,
+    }
+}
+
+// A fresh journal of the lent size, or LENGTH or ROOM.
+#[no_mangle]
+pub extern "C" fn ln_fresh(k: usize, journal: &mut [u8]) -> u64
+    ensures { λ r. ⌜ (r ≡ freshRefused k (now (journal .entry))) × (now (journal .exit) ≡ freshAfter k (now (journal .entry))) ⌝ }
+{
+    journal::fresh(k, journal) as u64
+}
+
+// Executes the word at the position and appends its entry, or LENGTH, FILE, PROGRAM, ROOM, JOURNAL, END, UNKNOWN, UNDEFINED or FULL.
+#[no_mangle]
+pub extern "C" fn ln_step(
+    k: usize,
+    z: &mut [u8],
+    p: &[u8],
+    program: &[u8],
+    journal: &mut [u8],
+) -> u64
+    ensures { λ r. ⌜ (r ≡ stepRefused k (now (z .entry)) (now (p .entry)) (now (program .entry)) (now (journal .entry)))
+        × (now (z .exit) ≡ stepVectors k (now (z .entry)) (now (p .entry)) (now (program .entry)) (now (journal .entry)))
+        × (now (journal .exit) ≡ stepJournal k (now (z .entry)) (now (p .entry)) (now (program .entry)) (now (journal .entry))) ⌝ }
+{
+    journal::step(k, z, p, program, journal) as u64
+}
+
+// Takes the last step back, or LENGTH, FILE, ROOM, JOURNAL or EMPTY.
+#[no_mangle]
+pub extern "C" fn ln_back(k: usize, z: &mut [u8], p: &[u8], journal: &mut [u8]) -> u64
+    ensures { λ r. ⌜ (r ≡ backRefused k (now (z .entry)) (now (p .entry)) (now (journal .entry)))
+        × (now (z .exit) ≡ backVectors k (now (z .entry)) (now (p .entry)) (now (journal .entry)))
+        × (now (journal .exit) ≡ backJournal k (now (z .entry)) (now (p .entry)) (now (journal .entry))) ⌝ }
+{
+    journal::back(k, z, p, journal) as u64
+}
+
+// Where a register stands, or LENGTH, FILE or RANGE; a flag that is not 0 names a predicate register.
+#[no_mangle]
+pub extern "C" fn ln_register_place(
+    k: usize,
+    z: &[u8],
+    p: &[u8],
+    predicate: u64,
+    number: usize,
+) -> LnPlace
+    ensures { λ r. ⌜ r ≡ placeOut (registerRefused k (length (now (z .entry))) (length (now (p .entry))) (kindOf (isSet predicate)) number) k (kindOf (isSet predicate)) number ⌝ }
+{
+    if predicate == 0 {
+        place_of(k, z, p, Kind::Vector, number)
+    } else {
+        place_of(k, z, p, Kind::Predicate, number)
+    }
+}
+
+// Where a register of a kind stands.
+fn place_of(k: usize, z: &[u8], p: &[u8], kind: Kind, number: usize) -> LnPlace
+    ensures { λ r. ⌜ r ≡ placeOut (registerRefused k (length (now (z .entry))) (length (now (p .entry))) kind number) k kind number ⌝ }
+{
+    let refused = pane::register_refusal(k, z, p, kind, number);
+    if refused != refusal::DONE {
+        return no_place(refused);
+    }
+    LnPlace {
+        number: refusal::DONE as u64,
+        predicate: flag_of(kind),
+        start: pane::register_start(k, kind, number) as u64,
+        bytes: pane::register_bytes(k, kind) as u64,
+    }
+}
+
+// The flag of a kind.
+fn flag_of(kind: Kind) -> u64
+    ensures { λ r. ⌜ r ≡ flagOf kind ⌝ }
+{
+    match kind {
+        Kind::Vector => 0,
+        Kind::Predicate => 1,
+    }
+}
+
+// A refusal with no place.
+fn no_place(number: u8) -> LnPlace
+    ensures { λ r. ⌜ r ≡ record { number = number; predicate = 0; start = 0; bytes = 0 } ⌝ }
+{
+    LnPlace {
+        number: number as u64,
+        predicate: 0,
+        start: 0,
+        bytes: 0,
+    }
+}
+
+// The bytes of a panel.
+const PANEL_BYTES: usize = Length::MOST * Length::VECTOR_UNIT;
+
+// Writes a row at a place of the output.
+fn write_row(out: &mut [u8], at: usize, row: [u8; 16])
+    requires { ⌜ at + segmentBytes ≤ length (now out) ⌝ }
+    ensures { λ _. ⌜ (now (out .exit) ≡ take at (now (out .entry)) ++ row ++ drop (at + segmentBytes) (now (out .entry))) × (length row ≡ segmentBytes) ⌝ }
+{
+    let end = at + Length::VECTOR_UNIT;
+    bytes::copy(&row, &mut out[at..end]);
+}
+
+// Writes a panel's rows one after the other at the front of the output.
+fn write_rows(out: &mut [u8], rows: [[u8; 16]; 16])
+    requires { ⌜ panelBytes ≤ length (now out) ⌝ }
+    ensures { λ _. ⌜ now (out .exit) ≡ joined rows ++ drop panelBytes (now (out .entry)) ⌝ }
+{
+    let mut s = 0;
+    while s < Length::MOST {
+        write_row(out, Length::VECTOR_UNIT * s, rows[s]);
+        s += 1;
+    }
+}
+
+// The panel's rows one after the other at the front of the output, or LENGTH, FILE, OUT or RANGE.
+#[no_mangle]
+pub extern "C" fn ln_panel(
+    k: usize,
+    z: &[u8],
+    p: &[u8],
+    source: usize,
+    governing: usize,
+    size: usize,
+    out: &mut [u8],
+) -> u64
+    ensures number { λ r. ⌜ r ≡ panelWrittenRefused k (now (z .entry)) (now (p .entry)) source governing size (length (now (out .entry))) ⌝ }
+    ensures bytes { λ _. ⌜ now (out .exit) ≡ panelWritten k (now (z .entry)) (now (p .entry)) source governing size (now (out .entry)) ⌝ }
+{
+    let files = machine::check_files(k, z, p);
+    if files != refusal::DONE {
+        return files as u64;
+    }
+    if out.len() < PANEL_BYTES {
+        return refusal::OUT as u64;
+    }
+    let refused = sums::panel_refusal(k, z, p, source, governing, size);
+    if refused != refusal::DONE {
+        return refused as u64;
+    }
+    write_rows(out, sums::panel(k, z, p, source, governing, size));
+    refusal::DONE as u64
+}
