@@ -232,7 +232,7 @@ fn is_long(form: Form) -> bool
 }
 
 // Writes the text of a word with these fields at the front, and answers its length.
-pub fn put_text(out: &mut [u8], f: Fields) -> usize
+fn put_text(out: &mut [u8], f: Fields) -> usize
     requires { ⌜ (leastOut ≤ length (now out)) × InRange f ⌝ }
     ensures { λ r. ⌜ Put (now (out .entry)) 0 (textOf f) (now (out .exit)) r ⌝ }
 {

@@ -4,3 +4,4 @@ pub mod Part
 pub mod Numerals
 pub mod Lines
 pub mod Outputs
+pub mod Paper

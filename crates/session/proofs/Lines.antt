@@ -1,35 +1,33 @@
 -- A line that is written, and the refusals of one in their order; that the contracts of the calls that write lines allow one result.
 -- Assumes nothing.
 use mathlib.Core.Path.{_≡_, refl, sym, _∙_, ap}
-use mathlib.Core.Bool.{Bool, not, cond}
+use mathlib.Core.Bool.{cond}
 use mathlib.Core.List.{List, [], _∷_, _++_, append-assoc}
 use Prim.Native.Nat.{ℕ, zero, suc, _+_, _*_, _-_, _≤_, _<_}
 use native.Mathlib.Nat.{zero-add, min-le-left}
 use native.Mathlib.Omega.{arith}
-use lib.Dec.{eqb, leb, ltb}
+use lib.Dec.{eqb, leb, ltb, eqb·suc-zero}
 use lib.ListN.{length, length-append, length-take, drop}
 use lib.Seq.{sets-eq}
-use borrow.Author.Tests.{lt-leb, ne-eqb, not-false}
-use Rattle.machine.specs.Size.{both, isProgram, vectorOf, vectorBytes, mostLength, vectors}
-use Rattle.machine.specs.Refusal.{Test, DONE, UNKNOWN, UNDEFINED, OUT, RANGE}
+use borrow.Author.Tests.{lt-leb, le-ltb, ne-eqb, not-false}
+use Rattle.machine.specs.Size.{both, vectorOf, vectorBytes, mostLength, vectors}
+use Rattle.machine.specs.Refusal.{DONE, UNKNOWN, UNDEFINED, OUT, RANGE, Test, programTest, answer}
 use Rattle.machine.specs.declared.Answer.{Answer}
 use Rattle.machine.proofs.Checks.{legal-most}
-use Rattle.words.specs.Table.{rows}
 use Rattle.words.specs.Decode.{decoded, numberOf}
-use Rattle.words.specs.declared.Fields.{Fields}
 use Rattle.words.specs.declared.Decoded.{Decoded}
 use Rattle.words.specs.declared.Decoded.the-variants.{Unknown, Undefined, Word}
-use Rattle.pane.specs.Word.{placeTests, wordAt, wordsOf, told}
+use Rattle.pane.specs.Word.{wordAt, endTest, told}
 use Rattle.pane.specs.Register.{unlessRefused, registerPart}
 use Rattle.pane.specs.declared.Kind.the-variants.{Vector}
 use Rattle.pane.proofs.Tests.{first, first-none, first-before, first-after}
 use Rattle.journal.proofs.Refusals.{fileTests}
-use Rattle.names.specs.Text.{bytes, textOf}
-use Rattle.names.specs.Named.{Put}
-use Rattle.names.proofs.Longest.{text-length}
+use Rattle.names.specs.Text.{bytes}
+use Rattle.names.specs.Named.{leastOut, textOfDecoded, textOfWord, refusal as textRefused, laid, Named, Put}
+use Rattle.names.proofs.Longest.{word-length}
 use Rattle.session.specs.Digits.{digitOf, digitsIn, hexOf, widthOf}
-use Rattle.session.specs.Line.{newline, mostLine, lead, stepLine, sessionLine, lineRefused, Written}
-use Rattle.session.proofs.Digits.{digits-length, lead-most, lead-done, hex-length}
+use Rattle.session.specs.Line.{newline, mostLine, lead, destinationOf, stepLine, sessionLine, lineRefused, Written}
+use Rattle.session.proofs.Digits.{digits-length, lead-most}
 
 -- two results that the contract of a call that writes a line allows are the same
 pub line-determined : (refusal : ℕ) (line old new new′ : List ℕ) (r r′ : Answer) → Written refusal line old new r → Written refusal line old new′ r′
@@ -54,7 +52,47 @@ line-done refusal count line old new r e fits put a =
       bytes = put .bytes ∙ sets-eq line old 0 (omega arith) ∙ rw zero-add;
     })
 
--- what stands at a place of a program tells the place's tests
+-- a line that is written is a piece at the front, and its length the place after it
+pub written-put : (refusal : ℕ) (line old new : List ℕ) (r : Answer) → Written refusal line old new r → length (unlessRefused refusal line []) ≤ length old
+    → Put old 0 (unlessRefused refusal line []) new (r .value)
+written-put refusal line old new r w fits =
+    record {
+      bytes = w .bytes ∙ sym (sets-eq (unlessRefused refusal line []) old 0 (rw zero-add fits) ∙ rw zero-add);
+      after = ap (λ (a : Answer). a .value) (w .answered) ∙ value refusal ∙ sym (zero-add _);
+    }
+  where
+    value : (n : ℕ) → answer n (length line) .value ≡ length (unlessRefused n line [])
+    value zero = refl
+    value (suc n) = refl
+
+-- a word's text that is named into room enough is a piece at the front
+named-written : (word : ℕ) (old new : List ℕ) (r : Answer) → Named word old new r → Written (textRefused (length old) word) (textOfWord word) old new r
+named-written word old new r w =
+    record { answered = w .answered; bytes = w .bytes ∙ ap (λ (l : List ℕ). laid l old) (same (textRefused (length old) word) (textOfWord word)) }
+  where
+    same : (n : ℕ) (l : List ℕ) → cond (eqb n DONE) l [] ≡ unlessRefused n l []
+    same zero l = refl
+    same (suc n) l = rw (eqb·suc-zero n)
+
+text-kept : (n word : ℕ) → leastOut ≤ n → unlessRefused (textRefused n word) (textOfWord word) [] ≡ textOfWord word
+text-kept n word h = rw (le-ltb _ _ h) (go (decoded word))
+  where
+    go : (d : Decoded)
+        → unlessRefused (cond (eqb (numberOf d) UNKNOWN) UNKNOWN (cond (eqb (numberOf d) UNDEFINED) UNDEFINED DONE)) (textOfDecoded d) [] ≡ textOfDecoded d
+    go Unknown = refl
+    go Undefined = refl
+    go (Word f) = refl
+
+pub named-put : (word : ℕ) (old new : List ℕ) (r : Answer) → leastOut ≤ length old → Named word old new r → Put old 0 (textOfWord word) new (r .value)
+named-put word old new r h w =
+    let kept = text-kept (length old) word h in
+    rw kept at
+    (written-put (textRefused (length old) word) (textOfWord word) old new r (named-written word old new r w) (rw kept (omega (arith, word-length word))))
+
+-- the tests of a place in a program, and what stands there tells them
+abbrev pub placeTests : ℕ → ℕ → List Test
+placeTests n at = programTest n ∷ endTest n at ∷ []
+
 pub told-number : (n word at : ℕ) → told n word at .number ≡ n
 told-number zero word at = refl
 told-number (suc n) word at = refl
@@ -109,10 +147,11 @@ unfolding stepLine
 line-other k z program position zero h = absurd (h refl)
 line-other k z program position (suc n) h = refl
 
-pub line-own : (k : ℕ) (z program : List ℕ) (position : ℕ) (f : Fields) → decoded (wordAt program position) ≡ Word f
-    → stepLine k z program position DONE ≡ lead position DONE ++ textOf f ++ bytes " " ++ hexOf (vectorOf k (f .d) z) ++ newline
+pub line-own : (k : ℕ) (z program : List ℕ) (position : ℕ)
+    → stepLine k z program position DONE
+    ≡ lead position DONE ++ textOfWord (wordAt program position) ++ bytes " " ++ hexOf (destinationOf k (wordAt program position) z) ++ newline
 unfolding stepLine
-line-own k z program position f e = rw e (simp append-assoc)
+line-own k z program position = simp append-assoc
 
 -- files that are not refused: the length is legal, and a register is drawn
 pub files-length : (k z p : ℕ) → first (fileTests k z p) 0 ≡ 0 → k ≤ mostLength
@@ -127,15 +166,10 @@ register-is k d z p e h =
 pub register-most : (k r : ℕ) (z : List ℕ) → k ≤ mostLength → length (vectorOf k r z) ≤ 256
 register-most k r z h = rw length-take (omega (arith, min-le-left (vectorBytes k) (length (drop (r * vectorBytes k) z))))
 
--- a line is not longer than the longest
+-- the line of a refused step is not longer than the longest
 pub other-most : (position number word : ℕ) → length (lead position number ++ digitsIn 16 8 word ++ newline) ≤ mostLine
 other-most position number word =
     rw (length-append, length-append, digits-length) (omega (arith, lead-most position number))
-
-pub own-most : (position : ℕ) (f : Fields) (register : List ℕ) → f .row < rows → length register ≤ 256
-    → length (lead position DONE ++ textOf f ++ bytes " " ++ hexOf register ++ newline) ≤ mostLine
-own-most position f register h l =
-    rw (length-append, length-append, length-append, length-append, hex-length) (omega (arith, lead-done position, text-length f h))
 
 -- the line of a session that is refused
 pub session-line : sessionLine ≡ bytes "14" ++ newline

@@ -4,28 +4,24 @@ use mathlib.Core.Path.{_≡_, refl, sym, _∙_, ap}
 use mathlib.Core.Bool.{Bool, true, false}
 use mathlib.Core.List.{List, [], _∷_, _++_, append-nil}
 use Prim.Native.Nat.{ℕ, zero, suc, _+_, _*_, _-_, _≤_}
-use native.Mathlib.Nat.{zero-add}
 use native.Mathlib.Omega.{arith}
 use lib.Dec.{ltb, leb}
 use lib.ListN.{length, length-append, take, drop}
-use lib.Seq.{sets-eq, take-length, take-at}
+use lib.Seq.{take-length, take-at}
 use borrow.Author.Tests.{le-ltb, ltb-false, le-leb}
 use Rattle.machine.specs.Size.{isLegal, mostLength, vectorOf, mostWords}
-use Rattle.machine.specs.Refusal.{DONE, OUT, Test, refused, answer}
+use Rattle.machine.specs.Refusal.{DONE, OUT, refused}
 use Rattle.machine.specs.declared.Answer.{Answer}
 use Rattle.machine.proofs.Checks.{legal-most}
 use Rattle.words.specs.Decode.{decoded, fieldsOf}
-use Rattle.words.specs.declared.Decoded.{Decoded}
-use Rattle.words.specs.declared.Decoded.the-variants.{Unknown, Undefined, Word}
-use Rattle.words.proofs.Encoding.{decoded-in-range}
 use Rattle.pane.specs.Register.{unlessRefused}
-use Rattle.pane.specs.Word.{placeTests, wordAt, wordsOf}
-use Rattle.pane.proofs.Tests.{first, None, Refuse, unless-refused}
-use Rattle.journal.proofs.Refusals.{fileTests}
+use Rattle.pane.specs.Word.{wordAt, wordsOf}
+use Rattle.pane.proofs.Tests.{first, first-none, unless-refused}
+use Rattle.journal.proofs.Refusals.{fileTests, none-refused}
 use Rattle.names.specs.Text.{bytes}
 use Rattle.names.specs.Named.{Put, textOfDecoded}
 use Rattle.names.proofs.Puts.{put-length}
-use Rattle.names.proofs.Longest.{mostText, text-length}
+use Rattle.names.proofs.Longest.{word-length}
 use Rattle.journal.specs.Layout.{isRoom, freshJournal}
 use Rattle.journal.specs.Calls.{freshAfter, stepRefused, stepVectors, stepJournal}
 use Rattle.session.specs.declared.Session.{Session}
@@ -35,35 +31,13 @@ use Rattle.session.specs.Line.{newline, mostLine, lead, stepLine, sessio
 use Rattle.session.specs.Output.{printed, linesFrom, walkJournal, sessionLines, outputOf, mostOutput, outputTest}
 use Rattle.session.proofs.Reading.{clash}
 use Rattle.session.proofs.Digits.{lead-done, hex-length}
-use Rattle.session.proofs.Lines.{wordRefused, by-last, other-most, register-most, session-line}
-
--- a line that is written is a piece at the front, and its length the place after it
-pub written-put : (refusal : ℕ) (line old new : List ℕ) (r : Answer) → Written refusal line old new r → length (unlessRefused refusal line []) ≤ length old
-    → Put old 0 (unlessRefused refusal line []) new (r .value)
-written-put refusal line old new r w fits =
-    record {
-      bytes = w .bytes ∙ sym (sets-eq (unlessRefused refusal line []) old 0 (rw zero-add fits) ∙ rw zero-add);
-      after = ap (λ (a : Answer). a .value) (w .answered) ∙ value refusal ∙ sym (zero-add _);
-    }
-  where
-    value : (n : ℕ) → answer n (length line) .value ≡ length (unlessRefused n line [])
-    value zero = refl
-    value (suc n) = refl
-
--- the text of a decoded word is not longer than the longest
-text-most : (word : ℕ) → length (textOfDecoded (decoded word)) ≤ mostText
-text-most word = go (decoded word) refl
-  where
-    go : (d : Decoded) → decoded word ≡ d → length (textOfDecoded d) ≤ mostText
-    go Unknown e = omega arith
-    go Undefined e = omega arith
-    go (Word f) e = text-length f (decoded-in-range word f e .row)
+use Rattle.session.proofs.Lines.{written-put, placeTests, wordRefused, by-last, other-most, register-most, session-line}
 
 -- a step's line is not longer than the longest
 line-length : (l t r : List ℕ) → length (l ++ (t ++ bytes " " ++ hexOf r) ++ newline) ≡ length l + length t + 2 * length r + 2
 line-length l t r = simp (length-append, hex-length) (omega arith)
 
-step-line-most : (k : ℕ) (z program : List ℕ) (position number : ℕ) → k ≤ mostLength → length (stepLine k z program position number) ≤ mostLine
+pub step-line-most : (k : ℕ) (z program : List ℕ) (position number : ℕ) → k ≤ mostLength → length (stepLine k z program position number) ≤ mostLine
 unfolding stepLine
 step-line-most k z program position zero h =
     let word = wordAt program position in
@@ -72,7 +46,7 @@ step-line-most k z program position zero h =
       arith,
       line-length (lead position 0) (textOfDecoded (decoded word)) register,
       lead-done position,
-      text-most word,
+      word-length word,
       register-most k (fieldsOf (decoded word) .d) z h,
     )
 step-line-most k z program position (suc n) h = other-most position (suc n) (wordAt program position)
@@ -94,20 +68,15 @@ printed-most k z p program position number = go (lineRefused k z p program posit
     go zero e = step-line-most k z program position number (line-legal k z p program position number mostLine e)
     go (suc n) e = omega arith
 
--- no refusal: no test holds, those that come after neither
-all-none : (ts : List Test) (after : ℕ) → Refuse ts → first ts after ≡ 0 → None ts × (after ≡ 0)
-all-none [] after ok e = (tt, e)
-all-none ((zero, b) ∷ ts) after ok e = absurd ok
-all-none ((suc n, true) ∷ ts) after ok e = absurd (omega arith)
-all-none ((suc n, false) ∷ ts) after ok e = let rest = all-none ts after ok e in ((refl, rest .0), rest .1)
-
 module _ (k : ℕ) (z p program : List ℕ) (position number : ℕ) where
   -- at the program's end nothing is printed
   pub end-silent : wordsOf (length program) ≤ position → printed k z p program position number ≡ []
   unfolding printed lineRefused
   end-silent h =
       unless-refused (lineRefused k z p program position number mostLine) (stepLine k z program position number) []
-      (λ e. clash (leb (wordsOf (length program)) position) (all-none (placeTests (length program) position) _ tt (all-none (fileTests k (length z) (length p)) _ tt e .1) .0 .1 .0) (le-leb _ _ h))
+      (λ e.
+      let place = none-refused (placeTests (length program) position) tt _ (none-refused (fileTests k (length z) (length p)) tt _ e .1) in
+      clash (leb (wordsOf (length program)) position) (first-none (placeTests (length program) position) tt (place .0) .1 .0) (le-leb _ _ h))
 
   -- before it a step's line is printed, whether the step was refused or had an accepted word
   pub line-printed : first (fileTests k (length z) (length p)) 0 ≡ 0 → first (placeTests (length program) position) 0 ≡ 0

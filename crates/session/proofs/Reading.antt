@@ -14,7 +14,7 @@ use Rattle.machine.specs.Size.{both, leastLength, mostLength, mostWords, isLega
 use Rattle.machine.specs.Refusal.{DONE, SESSION, refused, lengthTest, fileTest, programTest}
 use Rattle.machine.proofs.Checks.{both-left, both-right, legal-least, legal-most}
 use Rattle.session.specs.declared.Session.{Session}
-use Rattle.session.specs.Layout.{mark, version, versionAt, headerBytes, hasMark, versionOf, lengthOf, countOf, predicatesAt, programAt, endAt, isSession, told, sessionOf, vectorPart, predicatePart, programPart, IsSession, Parts}
+use Rattle.session.specs.Layout.{mark, version, versionAt, headerBytes, hasMark, versionOf, lengthOf, countOf, predicatesAt, programAt, endAt, mostSession, isSession, told, sessionOf, vectorPart, predicatePart, programPart, IsSession, Parts}
 
 -- the test of the mark, and that the bytes start with it
 pub mark-there : (bytes : List ℕ) → hasMark bytes ≡ true → take versionAt bytes ≡ mark
@@ -105,6 +105,10 @@ session-exactly bytes = go (isSession bytes) refl
     go false e =
         let h : IsSession bytes → ⊥ = λ s. clash (isSession bytes) e (passes bytes s) in
         inr (rw (none-told bytes h), h)
+
+-- no session is longer than the longest, so an input of one byte more is seen to be none
+pub session-most : (bytes : List ℕ) → IsSession bytes → length bytes ≤ mostSession
+session-most bytes s = omega (arith, s .whole, s .most, s .few)
 
 -- a session that is not refused: its parts have exactly the sizes of its length
 done-session : (bytes : List ℕ) → sessionOf bytes .number ≡ DONE → IsSession bytes

@@ -56,6 +56,10 @@ programAt k = predicatesAt k + predicateFile k
 abbrev pub endAt : ℕ → ℕ → ℕ
 endAt k count = programAt k + wordBytes * count
 
+-- the bytes of the longest session
+abbrev pub mostSession : ℕ
+mostSession = endAt mostLength mostWords
+
 -- a session: mark, version, k, count and total length are right
 abbrev pub isSession : List ℕ → Bool
 isSession bytes =

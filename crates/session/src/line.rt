@@ -4,15 +4,13 @@ use machine::Length;
 use machine::refusal;
 use pane::Kind;
 use words::Decoded;
-use words::Fields;
 ghost use mathlib.Core.Path.{_≡_};
 ghost use mathlib.Core.List.{[], _∷_, _++_};
 ghost use Prim.Native.Nat.{_+_, _*_, _≤_, _<_};
 ghost use lib.ListN.{length};
 ghost use Rattle.machine.specs.Refusal.{DONE, refused};
-ghost use Rattle.words.specs.Encode.{InRange};
-ghost use Rattle.names.specs.Text.{bytes as bytesOfText, textOf};
-ghost use Rattle.names.specs.Named.{leastOut, Put};
+ghost use Rattle.names.specs.Text.{bytes as bytesOfText};
+ghost use Rattle.names.specs.Named.{leastOut, textOfWord, Put};
 ghost use Rattle.session.specs.Digits.{digitOf, digitsIn, widthOf, decimal, hexOf};
 ghost use Rattle.session.specs.Line.{newline, mostLine, lead, stepLine, sessionLine, outTest, lineRefused, Written};
 
@@ -107,21 +105,21 @@ fn put_lead(out: &mut [u8], position: usize, number: usize) -> usize
     put(out, after, b' ')
 }
 
-// Writes the text of a word with these fields from a place on.
-fn put_text_at(out: &mut [u8], at: usize, fields: Fields) -> usize
-    requires { ⌜ (at + leastOut ≤ length (now out)) × InRange fields ⌝ }
-    ensures { λ r. ⌜ Put (now (out .entry)) at (textOf fields) (now (out .exit)) r ⌝ }
+// Writes a word's text from a place on; a word that is not accepted has none.
+fn put_text_at(out: &mut [u8], at: usize, word: u32) -> usize
+    requires { ⌜ at + leastOut ≤ length (now out) ⌝ }
+    ensures { λ r. ⌜ Put (now (out .entry)) at (textOfWord word) (now (out .exit)) r ⌝ }
 {
-    at + names::put_text(&mut out[at..], fields)
+    at + names::text(word, &mut out[at..]).value as usize
 }
 
 // Writes the line of an accepted step: the word's text, and the register.
-fn put_accepted(out: &mut [u8], position: usize, fields: Fields, register: &[u8]) -> usize
-    requires { ⌜ (mostLine ≤ length (now out)) × InRange fields × (length (now register) ≤ 256) ⌝ }
-    ensures { λ r. ⌜ Put (now (out .entry)) 0 (lead position DONE ++ textOf fields ++ bytesOfText " " ++ hexOf (now (register .entry)) ++ newline) (now (out .exit)) r ⌝ }
+fn put_accepted(out: &mut [u8], position: usize, word: u32, register: &[u8]) -> usize
+    requires { ⌜ (mostLine ≤ length (now out)) × (length (now register) ≤ 256) ⌝ }
+    ensures { λ r. ⌜ Put (now (out .entry)) 0 (lead position DONE ++ textOfWord word ++ bytesOfText " " ++ hexOf (now (register .entry)) ++ newline) (now (out .exit)) r ⌝ }
 {
     let text = put_lead(out, position, 0);
-    let after = put_text_at(out, text, fields);
+    let after = put_text_at(out, text, word);
     let hex = put(out, after, b' ');
     let end = put_hex(out, hex, register);
     put(out, end, b'\n')
@@ -186,7 +184,7 @@ pub fn write_line<'a>(
         Decoded::Undefined => refuse(refusal::UNDEFINED),
         Decoded::Word(fields) => {
             let register = pane::register(k, z, p, Kind::Vector, fields.d);
-            done(put_accepted(out, position, fields, register))
+            done(put_accepted(out, position, next.word, register))
         },
     }
 }

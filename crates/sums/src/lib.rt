@@ -27,21 +27,33 @@ pub fn lane_value(register: &[u8], predicate: &[u8], w: usize, signed: bool, e: 
     lanes::extend(lanes::lane(register, w, e), w, signed)
 }
 
-// The sum of the active lanes below count, lane by lane, modulo 2^64.
-pub fn sum_lanes(register: &[u8], predicate: &[u8], w: usize, signed: bool, count: usize) -> u64
-    requires { ⌜ Governs w (now predicate) (now register) × (count * w ≤ length (now register)) ⌝ }
-    ensures { λ r. ⌜ r ≡ laneSum signed w 0 count (now (predicate .entry)) (now (register .entry)) ⌝ }
+// The most lanes of a range that is not split any more.
+const RUN: usize = 16;
+
+// The sum of the active lanes from a up to but without b, lane by lane, modulo 2^64.
+fn sum_run(register: &[u8], predicate: &[u8], w: usize, signed: bool, a: usize, b: usize) -> u64
+    requires { ⌜ Governs w (now predicate) (now register) × (a ≤ b) × (b * w ≤ length (now register)) ⌝ }
+    ensures { λ r. ⌜ r ≡ laneSum signed w a b (now (predicate .entry)) (now (register .entry)) ⌝ }
 {
     let mut sum: u64 = 0;
-    let mut e = 0;
-    while e < count {
+    let mut e = a;
+    while e < b {
         sum = std::num::wrapping_add_u64(sum, lane_value(register, predicate, w, signed, e));
         e += 1;
     }
     sum
 }
 
-// The sum of the active lanes from a up to but without b, modulo 2^64: the range is split at its middle and each half summed the same way.
+// The sum of the active lanes below count, lane by lane, modulo 2^64.
+pub fn sum_lanes(register: &[u8], predicate: &[u8], w: usize, signed: bool, count: usize) -> u64
+    requires { ⌜ Governs w (now predicate) (now register) × (count * w ≤ length (now register)) ⌝ }
+    ensures { λ r. ⌜ r ≡ laneSum signed w 0 count (now (predicate .entry)) (now (register .entry)) ⌝ }
+{
+    sum_run(register, predicate, w, signed, 0, count)
+}
+
+// The sum of the active lanes from a up to but without b, modulo 2^64: the range is split at its middle and each half summed the same
+// way, until a few lanes are left.
 pub fn sum_between(
     register: &[u8],
     predicate: &[u8],
@@ -53,11 +65,8 @@ pub fn sum_between(
     requires { ⌜ Governs w (now predicate) (now register) × (a ≤ b) × (b * w ≤ length (now register)) ⌝ }
     ensures { λ r. ⌜ r ≡ laneSum signed w a b (now (predicate .entry)) (now (register .entry)) ⌝ }
 {
-    if a == b {
-        return 0;
-    }
-    if b - a == 1 {
-        return lane_value(register, predicate, w, signed, a);
+    if b - a <= RUN {
+        return sum_run(register, predicate, w, signed, a, b);
     }
     let middle = a + (b - a) / 2;
     let low = sum_between(register, predicate, w, signed, a, middle);

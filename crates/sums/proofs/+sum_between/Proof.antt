@@ -6,15 +6,14 @@ use Prim.Native.Nat.{ℕ, _+_, _-_, _/_, _%_, _^_, _<_}
 use mathlib.Core.Path.{_≡_, sym, _∙_, ap₂}
 use native.Mathlib.Nat.{mul-le-mul-right}
 use native.Mathlib.Omega.{arith}
-use Rattle.machine.proofs.Places.{place-within}
-use Rattle.sums.proofs.Ranges.{sum-none, sum-one, sum-split}
+use Rattle.sums.proofs.Ranges.{sum-split}
 use borrow.Fn.Kinds.{In}
 use borrow.Fn.PlainCycle.{Measures, is, falls, and}
 use Rattle.sums.proofs.sum_between.Reads as sum-between
 use Rattle.sums.proofs.sum_between.Kinds as sum-between-kinds
 use Rattle.sums.proofs.+sum_between.Lts-sum_between as sum-between-lts
 use Rattle.std.proofs.num.wrapping_add_u64.Reads as wrapping-add-u64-reads
-use Rattle.sums.proofs.lane_value.Reads as lane-value-reads
+use Rattle.sums.proofs.sum_run.Reads as sum-run-reads
 use Rattle.sums.proofs.+sum_between.{statement}
 use Rattle.sums.proofs.+sum_between.Tie.{close}
 
@@ -32,34 +31,22 @@ sum-between-below t =
 -- what the calls ask and tell
 abbrev callees : ℕ → sum-between-lts.Claims
 callees t = (
-  lane-value-reads.Asked,
-  lane-value-reads.Learnt,
+  sum-run-reads.Asked,
+  sum-run-reads.Learnt,
   sum-between-below t,
   sum-between.Post,
   wrapping-add-u64-reads.Asked,
   wrapping-add-u64-reads.Learnt,
 )
 
+sum-between-sub-if1 : (t : ℕ) → sum-between-lts.Need-sub-if1 (callees t) (sum-between-at t) sum-between.Post
+sum-between-sub-if1 t c = omega arith
+
+sum-between-sum-run-requires : (t : ℕ) → sum-between-lts.Need-sum-run-requires (callees t) (sum-between-at t) sum-between.Post
+sum-between-sum-run-requires t c κs = c .before .before .before .pre .1
+
 sum-between-returns : (t : ℕ) → sum-between-lts.Need-returns (callees t) (sum-between-at t) sum-between.Post
-sum-between-returns t c =
-    let a = c .before .before .before .args in
-    let same : a .b ≡ a .a = omega arith in
-    sym (rw same (sum-none (a .signed) (a .w) (a .predicate .now) (a .register .now) (a .a)))
-
-sum-between-sub-if2 : (t : ℕ) → sum-between-lts.Need-sub-if2 (callees t) (sum-between-at t) sum-between.Post
-sum-between-sub-if2 t c = omega arith
-
-sum-between-lane-value-requires : (t : ℕ) → sum-between-lts.Need-lane-value-requires (callees t) (sum-between-at t) sum-between.Post
-sum-between-lane-value-requires t c κs =
-    let a = c .before .before .before .before .args in
-    let r = c .before .before .before .before .pre .1 in
-    (r .0, omega (arith, r .2, place-within (a .a) (a .b) (a .w) (omega arith)))
-
-sum-between-returns-2 : (t : ℕ) → sum-between-lts.Need-returns-2 (callees t) (sum-between-at t) sum-between.Post
-sum-between-returns-2 t c =
-    let a = c .before .before .before .before .before .args in
-    c .lane-value .ensures
-    ∙ sym (sum-one (a .signed) (a .w) (a .predicate .now) (a .register .now) (a .a) (a .b) (c .before .if2 .taken))
+sum-between-returns t c = c .sum-run .ensures
 
 sum-between-sub-middle : (t : ℕ) → sum-between-lts.Need-sub-middle (callees t) (sum-between-at t) sum-between.Post
 sum-between-sub-middle t c = omega arith
@@ -69,23 +56,23 @@ sum-between-add-middle t c = omega arith
 
 sum-between-sum-between-requires : (t : ℕ) → sum-between-lts.Need-sum-between-requires (callees t) (sum-between-at t) sum-between.Post
 sum-between-sum-between-requires t c κs =
-    let a = c .before .before .before .before .args in
-    let r = c .before .before .before .before .pre .1 in (
+    let a = c .before .before .before .args in
+    let r = c .before .before .before .pre .1 in (
       omega arith,
       (r .0, omega arith, omega (arith, r .2, mul-le-mul-right {m = a .a + (a .b - a .a) / 2} {n = a .b} (a .w) (omega arith))),
     )
 
 sum-between-sum-between-requires-2 : (t : ℕ) → sum-between-lts.Need-sum-between-requires-2 (callees t) (sum-between-at t) sum-between.Post
 sum-between-sum-between-requires-2 t c κs =
-    let r = c .before .before .before .before .before .pre .1 in
+    let r = c .before .before .before .before .pre .1 in
     (omega arith, (r .0, omega arith, r .2))
 
 sum-between-wrapping-add-u64-requires : (t : ℕ) → sum-between-lts.Need-wrapping-add-u64-requires (callees t) (sum-between-at t) sum-between.Post
 sum-between-wrapping-add-u64-requires t c κs = search needs
 
-sum-between-returns-3 : (t : ℕ) → sum-between-lts.Need-returns-3 (callees t) (sum-between-at t) sum-between.Post
-sum-between-returns-3 t c =
-    let a = c .before .before .before .before .before .before .before .args in
+sum-between-returns-2 : (t : ℕ) → sum-between-lts.Need-returns-2 (callees t) (sum-between-at t) sum-between.Post
+sum-between-returns-2 t c =
+    let a = c .before .before .before .before .before .before .args in
     c .wrapping-add-u64 .ensures
     ∙ ap₂ (λ (m n : ℕ). (m + n) % 2 ^ 64) (c .before .before .sum-between .ensures) (c .before .sum-between2 .ensures)
     ∙ sym (sum-split (a .signed) (a .w) (a .predicate .now) (a .register .now) (a .a) (a .a + (a .b - a .a) / 2) (a .b) (omega arith) (omega arith))
@@ -94,13 +81,12 @@ pub +sum-between-spec : {M : Type 1} → statement M
 +sum-between-spec = close μ-sum-between λ t. sum-between-lts.spec (callees t)
     (sum-between-at t)
     sum-between.Post
+    (sum-between-sub-if1 t)
+    (sum-between-sum-run-requires t)
     (sum-between-returns t)
-    (sum-between-sub-if2 t)
-    (sum-between-lane-value-requires t)
-    (sum-between-returns-2 t)
     (sum-between-sub-middle t)
     (sum-between-add-middle t)
     (sum-between-sum-between-requires t)
     (sum-between-sum-between-requires-2 t)
     (sum-between-wrapping-add-u64-requires t)
-    (sum-between-returns-3 t)
+    (sum-between-returns-2 t)

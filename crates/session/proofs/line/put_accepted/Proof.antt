@@ -4,7 +4,7 @@
 use denote.Ref.{now}
 use native.Mathlib.Omega.{arith}
 use Rattle.names.proofs.Puts.{put-then, put-length}
-use Rattle.names.proofs.Longest.{text-length}
+use Rattle.names.proofs.Longest.{word-length}
 use Rattle.session.proofs.Digits.{hex-length, lead-done}
 use borrow.Author.Needs.{needs}
 use Rattle.session.proofs.line.put_accepted.Statement.{statement}
@@ -14,14 +14,11 @@ put-lead-requires : tie.Need-put-lead-requires
 put-lead-requires c κs = search needs
 
 put-text-at-requires : tie.Need-put-text-at-requires
-put-text-at-requires c κs = (
-  omega (
-    arith,
-    put-length (c .before .before .before .put-lead .ensures),
-    c .before .before .before .put-lead .ensures .after,
-    lead-done (c .before .before .before .before .before .before .before .args .position),
-  ),
-  c .before .before .before .before .before .before .before .pre .1,
+put-text-at-requires c κs = omega (
+  arith,
+  put-length (c .before .before .before .put-lead .ensures),
+  c .before .before .before .put-lead .ensures .after,
+  lead-done (c .before .before .before .before .before .before .before .args .position),
 )
 
 put-requires : tie.Need-put-requires
@@ -29,7 +26,7 @@ put-requires c κs = omega (
   arith,
   put-length (c .before .before .before .put-text-at .ensures),
   c .before .before .before .put-text-at .ensures .after,
-  text-length (c .before .before .before .before .before .before .before .before .before .before .before .args .fields) (c .before .before .before .before .before .before .before .before .before .before .before .pre .1 .row),
+  word-length (c .before .before .before .before .before .before .before .before .before .before .before .args .word),
   put-length (c .before .before .before .before .before .before .before .put-lead .ensures),
   c .before .before .before .before .before .before .before .put-lead .ensures .after,
   lead-done (c .before .before .before .before .before .before .before .before .before .before .before .args .position),
@@ -42,7 +39,7 @@ put-hex-requires c κs = omega (
   c .before .before .before .put .ensures .after,
   put-length (c .before .before .before .before .before .before .before .put-text-at .ensures),
   c .before .before .before .before .before .before .before .put-text-at .ensures .after,
-  text-length (c .before .before .before .before .before .before .before .before .before .before .before .before .before .before .before .args .fields) (c .before .before .before .before .before .before .before .before .before .before .before .before .before .before .before .pre .1 .row),
+  word-length (c .before .before .before .before .before .before .before .before .before .before .before .before .before .before .before .args .word),
   put-length (c .before .before .before .before .before .before .before .before .before .before .before .put-lead .ensures),
   c .before .before .before .before .before .before .before .before .before .before .before .put-lead .ensures .after,
   lead-done (c .before .before .before .before .before .before .before .before .before .before .before .before .before .before .before .args .position),
@@ -58,7 +55,7 @@ put-requires-2 c κs = omega (
   c .before .before .before .before .before .before .before .put .ensures .after,
   put-length (c .before .before .before .before .before .before .before .before .before .before .before .put-text-at .ensures),
   c .before .before .before .before .before .before .before .before .before .before .before .put-text-at .ensures .after,
-  text-length (c .before .before .before .before .before .before .before .before .before .before .before .before .before .before .before .before .before .before .before .args .fields) (c .before .before .before .before .before .before .before .before .before .before .before .before .before .before .before .before .before .before .before .pre .1 .row),
+  word-length (c .before .before .before .before .before .before .before .before .before .before .before .before .before .before .before .before .before .before .before .args .word),
   put-length (c .before .before .before .before .before .before .before .before .before .before .before .before .before .before .before .put-lead .ensures),
   c .before .before .before .before .before .before .before .before .before .before .before .before .before .before .before .put-lead .ensures .after,
   lead-done (c .before .before .before .before .before .before .before .before .before .before .before .before .before .before .before .before .before .before .before .args .position),

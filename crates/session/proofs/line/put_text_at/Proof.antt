@@ -1,45 +1,50 @@
 -- `put_text_at` meets its contract: the text at the front of the part from the place on is the text at the place.
 -- Assumes nothing.
+use Prim.Native.Nat.{_-_}
+use native.Mathlib.Nat.{le-refl}
 use native.Mathlib.Omega.{arith}
 use denote.Ref.{now}
-use Rattle.names.proofs.Longest.{text-length}
+use lib.ListN.{length}
+use borrow.Rule.Slice.PartMut.{midOf, mid-len}
+use Rattle.names.specs.Named.{textOfWord, Put}
+use Rattle.names.proofs.Longest.{word-length}
 use Rattle.session.proofs.Part.{put-from}
+use Rattle.session.proofs.Lines.{named-put}
 use borrow.Author.Needs.{needs}
 use Rattle.session.proofs.line.put_text_at.Statement.{statement}
 use Rattle.session.proofs.line.put_text_at.Tie as tie
 
-sub-put-text : tie.Need-sub-put-text
-sub-put-text c = search needs
+-- what is written into the part
+text-put : (c : tie.After-text) → let a = c .before .before .before .args in
+    Put (midOf (a .at) (length (now (a .out)) - a .at) (now (a .out))) 0 (textOfWord (a .word)) (c .text .last .1 .0) (c .text .result .value)
+text-put c =
+    let a = c .before .before .before .args in
+    named-put (a .word) _ _ (c .text .result) (omega (arith, mid-len (a .at) (length (now (a .out))) (now (a .out)) (le-refl _))) (c .text .ensures)
 
-part-put-text-start : tie.Need-part-put-text-start
-part-put-text-start c = search needs
+sub-text : tie.Need-sub-text
+sub-text c = search needs
 
-part-put-text-end : tie.Need-part-put-text-end
-part-put-text-end c = search needs
+part-text-start : tie.Need-part-text-start
+part-text-start c = search needs
 
-put-text-requires : tie.Need-put-text-requires
-put-text-requires c κs = search needs
+part-text-end : tie.Need-part-text-end
+part-text-end c = search needs
+
+text-requires : tie.Need-text-requires
+text-requires c κs = search needs
 
 add-result : tie.Need-add-result
-add-result c = omega (arith, c .before .before .put-text .ensures .after, text-length (c .before .before .before .before .before .args .fields) (c .before .before .before .before .before .pre .1 .row))
+add-result c = omega (arith, text-put (c .before .before) .after, word-length (c .before .before .before .before .before .args .word))
 
 same-length : tie.Need-same-length
 same-length c = search needs
 
 returns : tie.Need-returns
 returns c =
-    let start = c .before .before .before .before .before in
-    put-from (start .args .at) (now (start .args .out)) (omega arith) (omega (arith, text-length (start .args .fields) (start .pre .1 .row)))
-    (c .before .before .put-text .ensures)
+    let a = c .before .before .before .before .before .args in
+    put-from (a .at) (now (a .out)) (omega arith) (omega (arith, word-length (a .word))) (text-put (c .before .before))
 
 pub put-text-at-spec : {M : Type 1} → statement M
 put-text-at-spec =
     tie.close
-    (tie.spec
-    sub-put-text
-    part-put-text-start
-    part-put-text-end
-    put-text-requires
-    add-result
-    same-length
-    returns)
+    (tie.spec sub-text part-text-start part-text-end text-requires add-result same-length returns)

@@ -12,17 +12,20 @@ use Rattle.machine.specs.Refusal.{DONE, OUT, UNKNOWN, UNDEFINED}
 use Rattle.machine.specs.Size.{vectorOf}
 use Rattle.words.specs.declared.Fields.{Fields}
 use Rattle.words.specs.Encode.{InRange}
-use Rattle.words.specs.Decode.{decoded, numberOf}
+use Rattle.words.specs.Decode.{decoded, numberOf, fieldsOf}
 use Rattle.words.specs.declared.Decoded.the-variants.{Word}
 use Rattle.words.proofs.Encoding.{decoded-in-range}
-use Rattle.names.specs.Text.{bytes, textOf}
-use Rattle.pane.specs.Word.{placeTests, wordAt}
+use Rattle.names.specs.Text.{bytes}
+use Rattle.names.specs.Named.{textOfWord}
+use Rattle.words.specs.declared.Decoded.{Decoded}
+use Rattle.pane.specs.Word.{wordAt}
 use Rattle.pane.specs.declared.reader.Next.{Next}
 use Rattle.pane.proofs.Tests.{first}
 use Rattle.journal.proofs.Refusals.{fileTests}
 use Rattle.session.specs.Digits.{hexOf}
-use Rattle.session.specs.Line.{newline, lead, stepLine, lineRefused}
-use Rattle.session.proofs.Lines.{line-refused, line-done, told-number, told-word, word-other, word-own, by-files, by-place, by-last, line-other, line-own, files-length, register-is, register-most, other-most, own-most}
+use Rattle.session.specs.Line.{newline, lead, destinationOf, stepLine, lineRefused}
+use Rattle.session.proofs.Lines.{line-refused, line-done, placeTests, told-number, told-word, word-other, word-own, by-files, by-place, by-last, line-other, line-own, files-length, register-is, register-most, other-most}
+use Rattle.session.proofs.Outputs.{step-line-most}
 use borrow.Author.Needs.{needs}
 use Rattle.session.proofs.line.write_line.Statement.{statement}
 use Rattle.session.proofs.line.write_line.Tie as tie
@@ -139,8 +142,7 @@ register-requires : tie.Need-register-requires
 register-requires c κs = search needs
 
 put-accepted-requires : tie.Need-put-accepted-requires
-put-accepted-requires c κs =
-    (c .before .before .before .before .before .before .before .if3 .left, in-range (c .before .before .before), few (c .before))
+put-accepted-requires c κs = (c .before .before .before .before .before .before .before .if3 .left, few (c .before))
 
 done-requires-2 : tie.Need-done-requires-2
 done-requires-2 c κs = search needs
@@ -164,15 +166,19 @@ returns-7 : tie.Need-returns-7
 returns-7 c =
     let a = c .before .before .before .before .before .before .before .before .before .before .before .before .before .before .before .before .before .before .before .before .before .args in
     let f : Fields = c .before .before .before .before .before .before .before .fields .given .0 .0 in
+    let word : ℕ = c .before .before .before .before .before .before .before .before .before .before .before .before .before .before .next-word .result .word in
     let register : List ℕ = now (c .before .before .before .before .before .register .result) in
     let is : decoded (wordAt (now (a .program)) (a .position)) ≡ Word f = decoded-is (c .before .before .before .before .before .before .before .before .before) ∙ c .before .before .before .before .before .before .before .fields .given .1 in
-    let line : stepLine (a .k) (now (a .z)) (now (a .program)) (a .position) (a .number) ≡ lead (a .position) DONE ++ textOf f ++ bytes " " ++ hexOf register ++ newline =
+    let shows : destinationOf (a .k) (wordAt (now (a .program)) (a .position)) (now (a .z)) ≡ register =
+    ap (λ (d : Decoded). vectorOf (a .k) (fieldsOf d .d) (now (a .z))) is ∙ sym (drawn-is (c .before .before .before .before .before)) in
+    let line : stepLine (a .k) (now (a .z)) (now (a .program)) (a .position) (a .number) ≡ lead (a .position) DONE ++ textOfWord word ++ bytes " " ++ hexOf register ++ newline =
     ap (stepLine (a .k) (now (a .z)) (now (a .program)) (a .position)) (c .before .before .before .before .before .before .before .before .before .before .if4 .left)
-    ∙ line-own (a .k) (now (a .z)) (now (a .program)) (a .position) f is
-    ∙ ap (λ (l : List ℕ). lead (a .position) DONE ++ textOf f ++ bytes " " ++ hexOf l ++ newline) (sym (drawn-is (c .before .before .before .before .before))) in
+    ∙ line-own (a .k) (now (a .z)) (now (a .program)) (a .position)
+    ∙ ap (λ (l : List ℕ). lead (a .position) DONE ++ textOfWord (wordAt (now (a .program)) (a .position)) ++ bytes " " ++ hexOf l ++ newline) shows
+    ∙ ap (λ (w : ℕ). lead (a .position) DONE ++ textOfWord w ++ bytes " " ++ hexOf register ++ newline) (sym (word-is (c .before .before .before .before .before .before .before .before .before .before .before .before))) in
     rw line
     (line-done _ _ _ _ _ _ (decides (c .before .before .before .before .before .before .before .before .before .before) ∙ ap numberOf is)
-    (omega (arith, own-most (a .position) f register (in-range (c .before .before .before .before .before .before .before) .row) (few (c .before .before .before .before .before)), c .before .before .before .before .before .before .before .before .before .before .before .if3 .left))
+    (omega (arith, ap length line, step-line-most (a .k) (now (a .z)) (now (a .program)) (a .position) (a .number) (files-length (a .k) (length (now (a .z))) (length (now (a .p))) (files-right (c .before .before .before .before .before .before .before .before .before .before .before .before .before .before .before))), c .before .before .before .before .before .before .before .before .before .before .before .if3 .left))
     (c .before .before .before .put-accepted .ensures)
     (c .done2 .ensures))
 

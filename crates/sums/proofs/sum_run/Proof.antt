@@ -1,30 +1,32 @@
--- `sum_lanes` meets its contract: the sum so far is that of the lanes passed, and each turn adds one lane more.
+-- `sum_run` meets its contract: the sum so far is that of the lanes passed, and each turn adds one lane more.
 -- Assumes nothing.
 use borrow.Author.Needs.{needs}
 use Prim.Native.Nat.{_+_, _-_, _%_, _^_, _≤_}
-use mathlib.Core.Path.{_≡_, refl, sym, _∙_, ap₂}
+use mathlib.Core.Path.{_≡_, sym, _∙_, ap₂}
 use native.Mathlib.Omega.{arith}
 use Prim.Native.Nat.{ℕ}
 use Rattle.machine.proofs.Places.{place-within}
 use Rattle.sums.specs.Sums.{laneSum}
-use Rattle.sums.proofs.Ranges.{sum-next}
-use Rattle.sums.proofs.sum_lanes.Statement.{statement}
-use Rattle.sums.proofs.sum_lanes.Tie as tie
+use Rattle.sums.proofs.Ranges.{sum-none, sum-next}
+use Rattle.sums.proofs.sum_run.Statement.{statement}
+use Rattle.sums.proofs.sum_run.Tie as tie
 
 abbrev Inv-loop : tie.InvT-loop
-Inv-loop register predicate w signed count sum₀ e₀ sum e = (e ≤ count) × (sum ≡ laneSum signed w 0 e predicate register)
+Inv-loop register predicate w signed a b sum₀ e₀ sum e = (a ≤ e) × (e ≤ b) × (sum ≡ laneSum signed w a e predicate register)
 
 abbrev μ-loop : tie.MeasureT-loop
-μ-loop register predicate w signed count sum₀ e₀ sum e = count - e
+μ-loop register predicate w signed a b sum₀ e₀ sum e = b - e
 
 loop-holds : tie.Need-loop-holds Inv-loop μ-loop
-loop-holds c = (omega arith, refl)
+loop-holds c =
+    let a = c .before .before .args in
+    (omega arith, omega arith, sym (sum-none (a .signed) (a .w) (a .predicate .now) (a .register .now) (a .a)))
 
 lane-value-requires : tie.Need-lane-value-requires Inv-loop μ-loop
 lane-value-requires c κs =
     let a = c .before .before .before .before .args in
     let r = c .before .before .before .before .pre in
-    (r .0, omega (arith, r .1, place-within (c .before .loop .e) (a .count) (a .w) (c .loop-test .taken)))
+    (r .0, omega (arith, r .2, place-within (c .before .loop .e) (a .b) (a .w) (c .loop-test .taken)))
 
 wrapping-add-u64-requires : tie.Need-wrapping-add-u64-requires Inv-loop μ-loop
 wrapping-add-u64-requires c κs = search needs
@@ -40,18 +42,19 @@ loop-again c =
     let a = c .before .before .before .before .before .before .args in
     let l = c .before .before .before .loop in (
       omega arith,
+      omega arith,
       c .wrapping-add-u64 .ensures
-          ∙ ap₂ (λ (m n : ℕ). (m + n) % 2 ^ 64) (l .inv .1) (c .before .lane-value .ensures)
-          ∙ sym (sum-next (a .signed) (a .w) (a .predicate .now) (a .register .now) 0 (l .e) (omega arith)),
+          ∙ ap₂ (λ (m n : ℕ). (m + n) % 2 ^ 64) (l .inv .2) (c .before .lane-value .ensures)
+          ∙ sym (sum-next (a .signed) (a .w) (a .predicate .now) (a .register .now) (a .a) (l .e) (omega arith)),
     )
 
 returns : tie.Need-returns Inv-loop μ-loop
 returns c =
     let a = c .before .before .before .before .args in
-    let end : c .before .loop .e ≡ a .count = omega arith in
-    c .before .loop .inv .1 ∙ rw end
+    let end : c .before .loop .e ≡ a .b = omega arith in
+    c .before .loop .inv .2 ∙ rw end
 
-pub sum-lanes-spec : {M : Type 1} → statement M
-sum-lanes-spec =
+pub sum-run-spec : {M : Type 1} → statement M
+sum-run-spec =
     tie.close
     (tie.spec Inv-loop μ-loop loop-holds lane-value-requires wrapping-add-u64-requires add-e loop-less loop-again returns)

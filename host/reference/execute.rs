@@ -1,0 +1,64 @@
+//! What each word does.
+
+use crate::lanes::{active, extended, lane, set_lane, sum_of_active};
+use crate::words::{Form, TABLE};
+use ghishmadul::Fields;
+
+/// Executes an accepted word over files of the right sizes.
+pub fn execute(fields: &Fields, k: usize, z: &mut [u8], p: &[u8]) {
+    let bytes = 16 * k;
+    let vector = |number: usize| &z[number * bytes..][..bytes];
+    let (old, source, second) = (vector(fields.d), vector(fields.n), vector(fields.m));
+    let predicate = &p[fields.g * 2 * k..][..2 * k];
+    let width = 1 << fields.size;
+    let half = width / 2;
+    let lanes = bytes / width;
+
+    // The new destination; bytes that no form writes stay zero.
+    let mut result = [0; 256];
+    match TABLE[fields.row].form {
+        Form::Across { signed } => {
+            let sum = sum_of_active(source, predicate, width, signed, 0..lanes);
+            set_lane(&mut result, 8, 0, sum);
+        }
+        Form::Segments => {
+            let places = 16 / width;
+            for e in 0..lanes {
+                if active(predicate, width, e) {
+                    let place = e % places;
+                    let sum = lane(&result, width, place).wrapping_add(lane(source, width, e));
+                    set_lane(&mut result, width, place, sum);
+                }
+            }
+        }
+        Form::LongAcross { signed } => {
+            let sum = (0..(8 << fields.q) / width)
+                .map(|e| extended(source, width, e, signed))
+                .fold(0, u64::wrapping_add);
+            set_lane(&mut result, 2 * width, 0, sum);
+        }
+        Form::Pairs { signed } => {
+            for e in 0..lanes {
+                let mut value = lane(old, width, e);
+                if active(predicate, width, e) {
+                    value = value
+                        .wrapping_add(extended(source, half, 2 * e, signed))
+                        .wrapping_add(extended(source, half, 2 * e + 1, signed));
+                }
+                set_lane(&mut result, width, e, value);
+            }
+        }
+        Form::Long { signed, top } => {
+            for e in 0..lanes {
+                let sum = extended(source, half, 2 * e + top, signed).wrapping_add(extended(
+                    second,
+                    half,
+                    2 * e + top,
+                    signed,
+                ));
+                set_lane(&mut result, width, e, sum);
+            }
+        }
+    }
+    z[fields.d * bytes..][..bytes].copy_from_slice(&result[..bytes]);
+}

@@ -1,0 +1,139 @@
+//! How a word reads, and reading it.
+
+use crate::decode;
+use crate::words::{Form, TABLE};
+use ghishmadul::Refusal;
+use std::io::Write;
+
+const LETTERS: [char; 4] = ['b', 'h', 's', 'd'];
+
+pub fn text(word: u32, out: &mut [u8]) -> Result<usize, Refusal> {
+    if out.len() < 32 {
+        return Err(Refusal::Out);
+    }
+    let fields = decode(word)?;
+    let row = &TABLE[fields.row];
+    let (name, size, d, g, n, m) = (row.name, fields.size, fields.d, fields.g, fields.n, fields.m);
+    let letter = LETTERS[size];
+
+    let room = out.len();
+    let mut rest = out;
+    let written = match row.form {
+        Form::Across { .. } => write!(rest, "{} d{}, p{}, z{}.{}", name, d, g, n, letter),
+        Form::Segments => {
+            write!(rest, "{} v{}.{}{}, p{}, z{}.{}", name, d, 16 >> size, letter, g, n, letter)
+        }
+        Form::LongAcross { .. } => {
+            let lanes = (8 << fields.q) >> size;
+            write!(rest, "{} {}{}, v{}.{}{}", name, LETTERS[size + 1], d, n, lanes, letter)
+        }
+        Form::Pairs { .. } => {
+            write!(rest, "{} z{}.{}, p{}/m, z{}.{}", name, d, letter, g, n, LETTERS[size - 1])
+        }
+        Form::Long { .. } => {
+            let half = LETTERS[size - 1];
+            write!(rest, "{} z{}.{}, z{}.{}, z{}.{}", name, d, letter, n, half, m, half)
+        }
+    };
+    written.expect("a text has at most 26 bytes");
+    Ok(room - rest.len())
+}
+
+pub fn assemble(text: &[u8]) -> Result<u32, Refusal> {
+    std::str::from_utf8(text).ok().and_then(parse).ok_or(Refusal::Text)
+}
+
+fn parse(text: &str) -> Option<u32> {
+    let (name, rest) = text.split_once(' ')?;
+    let row = TABLE.iter().find(|row| row.name == name)?;
+    let mut operands = rest.split(", ");
+    let mut next = || operands.next();
+
+    // The size and the other fields, each at its place in the word.
+    let (size, q, fields) = match row.form {
+        Form::Across { .. } => {
+            let d = register(next()?, 'd', 31)?;
+            let g = register(next()?, 'p', 7)?;
+            let (n, size) = lanes(next()?)?;
+            (size, 0, g << 10 | n << 5 | d)
+        }
+        Form::Segments => {
+            let (d, arrangement) = arranged(next()?)?;
+            let g = register(next()?, 'p', 7)?;
+            let (n, size) = lanes(next()?)?;
+            if arrangement != ["16b", "8h", "4s", "2d"][size] {
+                return None;
+            }
+            (size, 0, g << 10 | n << 5 | d)
+        }
+        Form::LongAcross { .. } => {
+            let destination = next()?;
+            let (n, arrangement) = arranged(next()?)?;
+            let (size, q) = match arrangement {
+                "8b" => (0, 0),
+                "16b" => (0, 1),
+                "4h" => (1, 0),
+                "8h" => (1, 1),
+                "4s" => (2, 1),
+                _ => return None,
+            };
+            let d = register(destination, LETTERS[size + 1], 31)?;
+            (size, q, n << 5 | d)
+        }
+        Form::Pairs { .. } => {
+            let (d, size) = lanes(next()?)?;
+            let g = register(next()?.strip_suffix("/m")?, 'p', 7)?;
+            let (n, half) = lanes(next()?)?;
+            if half + 1 != size {
+                return None;
+            }
+            (size, 0, g << 10 | n << 5 | d)
+        }
+        Form::Long { .. } => {
+            let (d, size) = lanes(next()?)?;
+            let (n, half) = lanes(next()?)?;
+            let (m, other) = lanes(next()?)?;
+            if half + 1 != size || other != half {
+                return None;
+            }
+            (size, 0, m << 16 | n << 5 | d)
+        }
+    };
+    if next().is_some() || !row.allows(size, q) {
+        return None;
+    }
+    Some(row.word((q as u32) << 30 | (size as u32) << 22 | fields))
+}
+
+/// A register: a letter and a decimal number without leading zeros.
+fn register(operand: &str, letter: char, most: u32) -> Option<u32> {
+    let number = match *operand.strip_prefix(letter)?.as_bytes() {
+        [ones @ b'0'..=b'9'] => u32::from(ones - b'0'),
+        [tens @ b'1'..=b'9', ones @ b'0'..=b'9'] => u32::from((tens - b'0') * 10 + (ones - b'0')),
+        _ => return None,
+    };
+    if number <= most {
+        Some(number)
+    } else {
+        None
+    }
+}
+
+/// A vector register with its lanes, `zN.T`: the number and the size.
+fn lanes(operand: &str) -> Option<(u32, usize)> {
+    let (name, letter) = operand.split_once('.')?;
+    let size = match letter {
+        "b" => 0,
+        "h" => 1,
+        "s" => 2,
+        "d" => 3,
+        _ => return None,
+    };
+    Some((register(name, 'z', 31)?, size))
+}
+
+/// A vector register with its arrangement, `vN.A`.
+fn arranged(operand: &str) -> Option<(u32, &str)> {
+    let (name, arrangement) = operand.split_once('.')?;
+    Some((register(name, 'v', 31)?, arrangement))
+}

@@ -1,0 +1,228 @@
+//! The paper's marked cases M1 to M12 and its session, by the engine and by the reference.
+
+use ghishmadul::Refusal;
+
+type Assemble = fn(&[u8]) -> Result<u32, Refusal>;
+type Step = fn(usize, &mut [u8], &[u8], &[u8], &mut [u8]) -> Result<(), Refusal>;
+
+/// One step of one word: Z0 and Z1 before it, P0, and Z0 after it. Each pattern fills its register.
+struct Case {
+    name: &'static str,
+    k: usize,
+    text: &'static str,
+    old: &'static [u8],
+    source: &'static [u8],
+    predicate: &'static [u8],
+    new: New,
+}
+
+enum New {
+    /// These bytes, zeros above them.
+    Low(&'static [u8]),
+    /// These bytes, again and again.
+    Again(&'static [u8]),
+}
+
+use New::{Again, Low};
+
+const NOISE: &[u8] = &[0xEE];
+const PLACES: &[u8] = &[
+    0xFF, 0, 0, 0, 0, 0, 0, 0, 0, 0, 0, 0, 0, 0, 0, 0, //
+    0x02, 0, 0, 0, 0, 0, 0, 0, 0, 0, 0, 0, 0, 0, 0, 0,
+];
+const TOP_AND_TWO: &[u8] =
+    &[0xFF, 0xFF, 0xFF, 0xFF, 0xFF, 0xFF, 0xFF, 0xFF, 2, 0, 0, 0, 0, 0, 0, 0];
+
+const CASES: [Case; 14] = [
+    Case {
+        name: "M1",
+        k: 1,
+        text: "saddv d0, p0, z1.b",
+        old: NOISE,
+        source: &[0x80],
+        predicate: &[0xFF],
+        new: Low(&[0x00, 0xF8, 0xFF, 0xFF, 0xFF, 0xFF, 0xFF, 0xFF]),
+    },
+    Case {
+        name: "M2",
+        k: 16,
+        text: "saddv d0, p0, z1.b",
+        old: NOISE,
+        source: &[0x80],
+        predicate: &[0xFF],
+        new: Low(&[0x00, 0x80, 0xFF, 0xFF, 0xFF, 0xFF, 0xFF, 0xFF]),
+    },
+    Case {
+        name: "M3",
+        k: 16,
+        text: "saddv d0, p0, z1.b",
+        old: NOISE,
+        source: &[0x80],
+        predicate: &[0],
+        new: Low(&[]),
+    },
+    Case {
+        name: "M4",
+        k: 1,
+        text: "uaddv d0, p0, z1.d",
+        old: NOISE,
+        source: TOP_AND_TWO,
+        predicate: &[0xFF],
+        new: Low(&[1]),
+    },
+    Case {
+        name: "M5",
+        k: 3,
+        text: "uaddlv h0, v1.16b",
+        old: NOISE,
+        source: &[0xFF],
+        predicate: &[0],
+        new: Low(&[0xF0, 0x0F]),
+    },
+    Case {
+        name: "M6",
+        k: 3,
+        text: "uaddlv s0, v1.8h",
+        old: NOISE,
+        source: &[0xFF],
+        predicate: &[0],
+        new: Low(&[0xF8, 0xFF, 0x07, 0x00]),
+    },
+    Case {
+        name: "M7",
+        k: 3,
+        text: "saddlv s0, v1.4h",
+        old: NOISE,
+        source: &[0x00, 0x80],
+        predicate: &[0],
+        new: Low(&[0x00, 0x00, 0xFE, 0xFF]),
+    },
+    Case {
+        name: "M8",
+        k: 2,
+        text: "addqv v0.16b, p0, z1.b",
+        old: NOISE,
+        source: PLACES,
+        predicate: &[0xFF],
+        new: Low(&[0x01]),
+    },
+    Case {
+        name: "M8, second inactive",
+        k: 2,
+        text: "addqv v0.16b, p0, z1.b",
+        old: NOISE,
+        source: PLACES,
+        predicate: &[0xFF, 0xFF, 0xFE, 0xFF],
+        new: Low(&[0xFF]),
+    },
+    Case {
+        name: "M9",
+        k: 1,
+        text: "sadalp z0.h, p0/m, z1.b",
+        old: &[0xFF, 0x7F],
+        source: &[1, 0],
+        predicate: &[0xFF],
+        new: Again(&[0x00, 0x80]),
+    },
+    Case {
+        name: "M9, inactive",
+        k: 1,
+        text: "sadalp z0.h, p0/m, z1.b",
+        old: &[0xFF, 0x7F],
+        source: &[1, 0],
+        predicate: &[0xAA],
+        new: Again(&[0xFF, 0x7F]),
+    },
+    Case {
+        name: "M10",
+        k: 1,
+        text: "saddlb z0.h, z1.b, z1.b",
+        old: NOISE,
+        source: &[0x80],
+        predicate: &[0],
+        new: Again(&[0x00, 0xFF]),
+    },
+    Case {
+        name: "M11, predicate 02 00",
+        k: 1,
+        text: "saddv d0, p0, z1.h",
+        old: NOISE,
+        source: &[1, 0],
+        predicate: &[0x02, 0x00],
+        new: Low(&[]),
+    },
+    Case {
+        name: "M11, predicate 04 00",
+        k: 1,
+        text: "saddv d0, p0, z1.h",
+        old: NOISE,
+        source: &[1, 0],
+        predicate: &[0x04, 0x00],
+        new: Low(&[1]),
+    },
+];
+
+fn fill(part: &mut [u8], pattern: &[u8]) {
+    for (byte, &value) in part.iter_mut().zip(pattern.iter().cycle()) {
+        *byte = value;
+    }
+}
+
+fn run(side: &str, case: &Case, assemble: Assemble, step: Step) {
+    let bytes = 16 * case.k;
+    let mut z = vec![0xEE; 512 * case.k];
+    let mut p = vec![0; 32 * case.k];
+    fill(&mut z[..bytes], case.old);
+    fill(&mut z[bytes..2 * bytes], case.source);
+    fill(&mut p[..2 * case.k], case.predicate);
+
+    let mut after = z.clone();
+    match case.new {
+        Low(low) => {
+            after[..bytes].fill(0);
+            after[..low.len()].copy_from_slice(low);
+        }
+        Again(pattern) => fill(&mut after[..bytes], pattern),
+    }
+
+    let program = assemble(case.text.as_bytes()).expect(case.text).to_le_bytes();
+    let mut journal = vec![0; 8 + 1 + bytes];
+    reference::fresh(case.k, &mut journal).expect("a legal length");
+    assert_eq!(step(case.k, &mut z, &p, &program, &mut journal), Ok(()), "{} {}", side, case.name);
+    assert!(z == after, "{} {}", side, case.name);
+}
+
+fn main() {
+    for case in &CASES {
+        run("engine", case, ghishmadul::assemble, ghishmadul::step);
+        run("reference", case, reference::assemble, reference::step);
+    }
+
+    // M12
+    for word in [0x2EB0_3800, 0x4500_0000] {
+        assert_eq!(ghishmadul::decode(word), Err(Refusal::Undefined));
+        assert_eq!(reference::decode(word), Err(Refusal::Undefined));
+    }
+    let calls: [fn(u32, &mut [u8]) -> Result<usize, Refusal>; 2] =
+        [ghishmadul::text, reference::text];
+    for text in calls {
+        let mut out = [0; 32];
+        let length = text(0x6EB0_3800, &mut out).expect("an accepted word");
+        assert_eq!(&out[..length], b"uaddlv d0, v0.4s");
+    }
+
+    // The paper's session, by the reference; by the engine it is walked in C.
+    let mut session = b"LNW\x01\x00\x01\x04\x00".to_vec();
+    session.resize(8 + 544, 0);
+    for byte in 0..16 {
+        session[8 + 16 + byte] = byte as u8 + 1;
+    }
+    session[8 + 512..8 + 514].fill(0xFF);
+    for word in [0x0400_2020u32, 0x2E30_3822, 0x4541_0023, 0x04C0_2020] {
+        session.extend(word.to_le_bytes());
+    }
+    assert_eq!(reference::walk(&session), include_str!("walk.expected"));
+    session.push(0);
+    assert_eq!(reference::walk(&session), "14\n");
+    println!("marked cases: M1 to M12 and the paper's session");
+}

@@ -1,0 +1,83 @@
+/* Walks the paper's session in C, over include/ln.h, and prints a line for each step. */
+#include "ln.h"
+
+#include <stdio.h>
+#include <string.h>
+
+#define K 1
+#define WORDS 4
+
+static uint8_t session[LN_SESSION_HEADER_BYTES + LN_VECTOR_FILE_BYTES(K) + LN_PREDICATE_FILE_BYTES(K) +
+                       LN_WORD_BYTES * WORDS];
+static uint8_t journal[LN_MOST_JOURNAL_BYTES];
+
+/* k = 1, Z1 bytes 1 to 16 in order, P0 bytes FF FF, all else zero, four words. */
+static void make_session(void)
+{
+    static const uint8_t header[LN_SESSION_HEADER_BYTES] = {'L', 'N', 'W', 1, 0, K, WORDS, 0};
+    static const uint32_t words[WORDS] = {0x04002020, 0x2E303822, 0x45410023, 0x04C02020};
+    uint8_t *vectors = session + LN_SESSION_HEADER_BYTES;
+    uint8_t *predicates = vectors + LN_VECTOR_FILE_BYTES(K);
+    uint8_t *program = predicates + LN_PREDICATE_FILE_BYTES(K);
+    size_t at, byte;
+
+    memcpy(session, header, sizeof header);
+    for (at = 0; at < 16; at++) {
+        vectors[LN_VECTOR_BYTES(K) + at] = (uint8_t)(at + 1);
+    }
+    predicates[0] = 0xFF;
+    predicates[1] = 0xFF;
+    for (at = 0; at < WORDS; at++) {
+        for (byte = 0; byte < LN_WORD_BYTES; byte++) {
+            program[LN_WORD_BYTES * at + byte] = (uint8_t)(words[at] >> (8 * byte));
+        }
+    }
+}
+
+int main(void)
+{
+    struct ln_session parts;
+    uint8_t *z, *p, *program;
+    size_t z_bytes, p_bytes, program_bytes, position;
+
+    make_session();
+    parts = ln_read_session(session, sizeof session);
+    if (parts.number != LN_DONE) {
+        printf("%d\n", (int)parts.number);
+        return 0;
+    }
+    z = session + parts.vectors;
+    p = session + parts.predicates;
+    program = session + parts.program;
+    z_bytes = LN_VECTOR_FILE_BYTES(parts.k);
+    p_bytes = LN_PREDICATE_FILE_BYTES(parts.k);
+    program_bytes = LN_WORD_BYTES * parts.count;
+    ln_fresh(parts.k, journal, sizeof journal);
+
+    for (position = 0;; position++) {
+        struct ln_word next = ln_read_word(program, program_bytes, position);
+        uint64_t number = ln_step(parts.k, z, z_bytes, p, p_bytes, program, program_bytes, journal, sizeof journal);
+        if (number == LN_END) {
+            break;
+        }
+        printf("%d %d ", (int)position, (int)number);
+        if (number != LN_DONE) {
+            printf("%08lx\n", (unsigned long)next.word);
+            break;
+        }
+        {
+            uint8_t text[LN_LEAST_TEXT_OUT];
+            struct ln_answer length = ln_text((uint32_t)next.word, text, sizeof text);
+            struct ln_fields fields = ln_decode((uint32_t)next.word);
+            struct ln_place place = ln_register_place(parts.k, z, z_bytes, p, p_bytes, 0, fields.d);
+            size_t byte;
+
+            printf("%.*s ", (int)length.value, (const char *)text);
+            for (byte = place.bytes; byte > 0; byte--) {
+                printf("%02x", z[place.start + byte - 1]);
+            }
+            printf("\n");
+        }
+    }
+    return 0;
+}
