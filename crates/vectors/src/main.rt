@@ -1,6 +1,10 @@
 // Names words and reads their texts back, and tries texts that no word reads as. Each line of a word has the word, the number that
 // naming answers, and where that is 0 the text and the word that the text assembles to. Each line of a text has the number that
-// assembling answers and the text in brackets.
+// assembling answers and the text in brackets. Then the lines of the steps and of the runs, as families and runs say.
+mod families;
+mod filled;
+mod runs;
+
 use libc::STDOUT_FILENO;
 use machine::refusal;
 use words::ROWS;
@@ -153,4 +157,6 @@ fn main() {
     show_near_misses();
     show_misfits();
     show_long();
+    families::show_families();
+    runs::show_runs();
 }
