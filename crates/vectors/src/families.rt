@@ -7,8 +7,8 @@ ghost use Prim.Native.Nat.{_≤_};
 fn show_filled(k: usize, z: &mut [u8], p: &mut [u8], program: &[u8]) {
     let mut journal = [0u8; 265];
     let mut out = [0u8; 546];
-    filled::fill(z, 3);
-    filled::fill(p, 5);
+    filled::fill(z, 3, 256);
+    filled::fill(p, 5, 256);
     let number = fresh_step(k, z, p, program, &mut journal);
     let line = session::line::write_line(&mut out, k, z, p, program, 0, number);
     let length = line.value as usize;

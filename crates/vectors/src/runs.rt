@@ -20,7 +20,7 @@ fn is_walked(
     plain_journal: &mut [u8],
     moves: &[u8],
 ) -> bool {
-    filled::fill(plain_z, 3);
+    filled::fill(plain_z, 3, 256);
     journal::fresh(k, plain_journal);
     journal::moves::make_moves(k, plain_z, p, program, plain_journal, moves);
     check::same(plain_z, z) && check::same(plain_journal, journal)
@@ -50,11 +50,10 @@ fn is_plain(k: usize, z: &[u8], p: &[u8], program: &[u8], journal: &[u8], steps:
 
 // Fills the buffers of a run.
 fn fill_run(z: &mut [u8], p: &mut [u8], program: &mut [u8], moves: &mut [u8]) {
-    filled::fill(z, 3);
-    filled::fill(p, 5);
+    filled::fill(z, 3, 256);
+    filled::fill(p, 5, 256);
     filled::fill_words(program);
-    filled::fill(moves, 9);
-    filled::thirds(moves);
+    filled::fill(moves, 9, 3);
 }
 
 // Shows whether a run's bytes are those of the plain walk.
