@@ -1,0 +1,162 @@
+"""The eleven words, as numbers, as fields and as text.
+
+The table is the paper's. This is for making and reading sessions at a terminal; the proved assembler is the library's, and
+tests/terminal holds this one to the proved engine's texts over every accepted word."""
+import re
+from collections import namedtuple
+
+from .saying import Bad, echo
+
+LETTERS = "bhsdq"  # a lane's letter by its size: 8, 16, 32, 64 and 128 bits
+
+# A form's mask, and its operands: d, n, m and g are register numbers, T and H the letters of the width and of half of it, R that of
+# twice the width, A the arrangement of a V register.
+Form = namedtuple("Form", "mask operands")
+REDUCTION = Form(0xFF3FE000, "d{d}, p{g}, z{n}.{T}")
+SEGMENT = Form(0xFF3FE000, "v{d}.{A}, p{g}, z{n}.{T}")
+LONG = Form(0xBF3FFC00, "{R}{d}, v{n}.{A}")
+PAIRWISE = Form(0xFF3FE000, "z{d}.{T}, p{g}/m, z{n}.{H}")
+WIDENING = Form(0xFF20FC00, "z{d}.{T}, z{n}.{H}, z{m}.{H}")
+
+Row = namedtuple("Row", "name value form sizes")
+ROWS = [
+    Row("saddv", 0x04002000, REDUCTION, (0, 1, 2)),
+    Row("uaddv", 0x04012000, REDUCTION, (0, 1, 2, 3)),
+    Row("addqv", 0x04052000, SEGMENT, (0, 1, 2, 3)),
+    Row("saddlv", 0x0E303800, LONG, (0, 1, 2)),
+    Row("uaddlv", 0x2E303800, LONG, (0, 1, 2)),
+    Row("sadalp", 0x4404A000, PAIRWISE, (1, 2, 3)),
+    Row("uadalp", 0x4405A000, PAIRWISE, (1, 2, 3)),
+    Row("saddlb", 0x45000000, WIDENING, (1, 2, 3)),
+    Row("saddlt", 0x45000400, WIDENING, (1, 2, 3)),
+    Row("uaddlb", 0x45000800, WIDENING, (1, 2, 3)),
+    Row("uaddlt", 0x45000C00, WIDENING, (1, 2, 3)),
+]
+NAMES = [row.name for row in ROWS]
+
+# where each register number stands in a word, and the greatest
+FIELDS = {"d": (0, 31), "n": (5, 31), "g": (10, 7), "m": (16, 31)}
+
+# An accepted word taken apart; a number that its form does not have is of no meaning.
+Word = namedtuple("Word", "row size q d n g m")
+
+REGISTER = re.compile(r"\b([bhsdqpvz])([0-9]+)")
+
+
+def variants(row):
+    """Each size that the row allows, with Q where it has one."""
+    for size in row.sizes:
+        for q in (0, 1) if row.form is LONG else (0,):
+            if not (row.form is LONG and size == 2 and q == 0):
+                yield size, q
+
+
+def template(row, size, q):
+    """The row's text at a size, its register numbers still to be filled in."""
+    bytes_of_v = 8 << q if row.form is LONG else 16
+    letters = {
+        "T": LETTERS[size],
+        "H": LETTERS[size - 1],
+        "R": LETTERS[size + 1],
+        "A": "%d%s" % (bytes_of_v >> size, LETTERS[size]),
+    }
+    text = row.name + " " + row.form.operands
+    for letter, to in letters.items():
+        text = text.replace("{%s}" % letter, to)
+    return text
+
+
+TEMPLATES = {(row.name, size, q): template(row, size, q) for row in ROWS for size, q in variants(row)}
+
+
+def shapes():
+    """For each text with its numbers taken out: the word with zeros for them, and the fields in their order."""
+    found = {}
+    for row in ROWS:
+        for size, q in variants(row):
+            text = TEMPLATES[row.name, size, q]
+            fields = re.findall(r"\{(.)\}", text)
+            found[re.sub(r"\{.\}", "#", text)] = row.value | size << 22 | q << 30, fields
+    return found
+
+
+SHAPES = shapes()
+
+
+def decoded(word):
+    """0 and the word's parts, or the number it is refused with: 7, UNKNOWN, or 8, UNDEFINED."""
+    for row in ROWS:
+        if word & row.form.mask == row.value:
+            size, q = word >> 22 & 3, word >> 30 & 1 if row.form is LONG else 0
+            if (row.name, size, q) not in TEMPLATES:
+                return 8, None
+            return 0, Word(row, size, q, word & 31, word >> 5 & 31, word >> 10 & 7, word >> 16 & 31)
+    return 7, None
+
+
+def named(word):
+    """An accepted word's text, or None."""
+    number, parts = decoded(word)
+    if number:
+        return None
+    return TEMPLATES[parts.row.name, parts.size, parts.q].format(d=parts.d, n=parts.n, g=parts.g, m=parts.m)
+
+
+def accepted_forms(name):
+    """The texts that a row allows, with D, N, M and G for the numbers."""
+    return ["%s" % TEMPLATES[key].format(d="D", n="N", m="M", g="G") for key in TEMPLATES if key[0] == name]
+
+
+def exact(text):
+    """The text in the paper's spacing and case."""
+    name, _, operands = " ".join(text.lower().split()).partition(" ")
+    return name + " " + re.sub(r" ?([,/.]) ?", r"\1", operands).replace(",", ", ")
+
+
+def assembled(text):
+    """The word that a line of assembler stands for. Spacing and case are free."""
+    text = exact(text)
+    shape = REGISTER.sub(r"\1#", text)
+    if shape not in SHAPES:
+        raise Bad(why_not(text))
+    word, fields = SHAPES[shape]
+    for (letter, digits), field in zip(REGISTER.findall(text), fields):
+        shift, most = FIELDS[field]
+        if len(digits) > 1 and digits[0] == "0":
+            raise Bad("the register number %s has a leading zero" % echo(digits))
+        if len(digits) > 2 or int(digits) > most:
+            if field == "g":
+                raise Bad("a governing predicate is p0 to p7, not %s" % echo(letter + digits))
+            raise Bad("a register number is 0 to 31, not %s" % echo(digits))
+        word |= int(digits) << shift
+    return word
+
+
+def why_not(text):
+    """The reason why a text has no word, with what would have one."""
+    name = text.split(" ")[0]
+    if name in NAMES:
+        return "%s is none of the forms of %s: %s" % (echo(text.strip()), name, "; ".join(accepted_forms(name)))
+    for known in NAMES:
+        if re.match(known + r"[bhsdvz][0-9]", text):
+            return "a space is missing after %s: write %s" % (known, echo(known + " " + text[len(known):].strip()))
+    if re.match(r"(0x)?[0-9a-f]{8} ?\Z", text):
+        return "a word in hex is written '.inst 0x%s'" % text.strip()[-8:]
+    return "%s is no instruction here: the names are %s" % (echo(text.strip()), ", ".join(NAMES))
+
+
+def letter(width):
+    """The letter of lanes of `width` bytes."""
+    return LETTERS[width.bit_length() - 1]
+
+
+def reads(parts):
+    """The registers that a word reads, each with its kind, number and the bytes of a lane (for a predicate: of a lane that it governs)."""
+    width, form = 1 << parts.size, parts.row.form
+    if form in (REDUCTION, SEGMENT):
+        return [("z", parts.n, width), ("p", parts.g, width)]
+    if form == LONG:
+        return [("z", parts.n, width)]
+    if form == PAIRWISE:
+        return [("z", parts.n, width // 2), ("p", parts.g, width), ("z", parts.d, width)]
+    return [("z", parts.n, width // 2), ("z", parts.m, width // 2)]

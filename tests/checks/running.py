@@ -1,0 +1,163 @@
+"""The script run: sessions told by their mark, statuses, refusals by name, links, folders and outputs of every kind, and what it says while
+the crates of walk are proved (with a stand-in for the toolchain's rt, so that nothing is proved here)."""
+import os
+import shutil
+import struct
+import tempfile
+
+from .common import WALK, Ran, expect, place, read, run
+
+PAPER = ("examples", "paper.session")
+TEXT = b"k 1\nz1.b 1 2\np0.b all\nprogram\nsaddv d0, p0, z1.b\n"
+LINE = b"0 0 saddv d0, p0, z1.b 00000000000000000000000000000003\n"
+
+
+def check():
+    with tempfile.TemporaryDirectory() as room:
+        told_by_mark(room)
+        refusals()
+        names(room)
+        outputs()
+        lanes()
+        links(room)
+        building(room)
+
+
+def told_by_mark(room):
+    """A session and a text are told apart by their first bytes, whatever the name and from standard input too."""
+    session = read(*PAPER)
+    for name, data, status, out in (("a.txt", session, 3, read("examples/paper.expected")), ("b", TEXT, 0, LINE), ("c.session", TEXT, 0, LINE)):
+        path = os.path.join(room, name)
+        with open(path, "wb") as file:
+            file.write(data)
+        run(path).expect(status, out=out)
+        said = run("-", stdin=data).expect(status, out=out)
+        expect(said.err == "" or status == 3, "a walk to its end says something:", said.err)
+    run("-", stdin=b"k 1\nprogram\n").expect(0, "nothing to walk", out=b"")
+    run("-", stdin=TEXT + b"nonsense\n").expect(3, "run: standard input: line 6: 'nonsense'", "as text for one it is refused", out=b"")
+    run("-", stdin=b"").expect(3, "line 1: the text ends", out=b"")
+    run("-", stdin=bytes(range(256))).expect(3, "NUL", out=b"")
+
+
+def refusals():
+    """Each refusal that a walk can show, with its name beside its number."""
+    run("-", stdin=TEXT + b".inst 0x04c02020\n").expect(3, "word 1, 04c02020, is refused with 8 UNDEFINED", out=LINE + b"1 8 04c02020\n")
+    run("-", stdin=TEXT + b".inst 0xd65f03c0\n").expect(3, "word 1, d65f03c0, is refused with 7 UNKNOWN", out=LINE + b"1 7 d65f03c0\n")
+    full = run("-", stdin=b"k 16\nprogram\n" + b"saddv d0, p0, z1.b\n" * 256)
+    full.expect(3, "word 254, 04002020, is refused with 9 FULL", "holds 254 entries at k = 16")
+    expect(full.out.count(b"\n") == 255 and full.out.endswith(b"\n254 9 04002020\n"), "the walk at k = 16 ends otherwise")
+    whole = run("-", stdin=b"k 15\nprogram\n" + b"saddv d0, p0, z1.b\n" * 256).expect(0)
+    expect(whole.out.count(b"\n") == 256, "the walk at k = 15 has not 256 lines")
+    head = lambda version, k, count: b"LNW" + struct.pack("<HBH", version, k, count)  # noqa: E731
+    for data, reason in (
+        (b"LNW", "the file has 3 bytes"),
+        (b"LNW\n", "the file has 4 bytes"),
+        (head(2, 1, 0) + bytes(544), "the version is 2"),
+        (head(1, 0, 0), "the length k is 0"),
+        (head(1, 17, 0), "the length k is 17"),
+        (head(1, 1, 257) + bytes(544 + 4 * 257), "257 words"),
+        (head(1, 1, 0) + bytes(543), "551 bytes, and with k = 1 and 0 words it would have 552"),
+        (head(1, 1, 0) + bytes(545), "553 bytes"),
+    ):
+        run("-", stdin=data).expect(3, "14 SESSION: ", reason, out=b"14\n")
+        run("--lanes", "-", stdin=data).expect(3, "14 SESSION: ", out=b"14\n")
+
+
+def names(room):
+    """Names that are no file, and wrong command lines."""
+    nowhere = os.path.join(room, "nowhere")
+    os.symlink(os.path.join(room, "gone"), nowhere)
+    for name, reason in (("", "empty"), (room, "is a folder"), (os.path.join(room, "none"), "there is no file"), (nowhere, "a link to nothing"),
+                         ("a\nb\x1b[2J", "there is no file a?b?[2J")):
+        run(name).expect(1, reason, out=b"")
+    run("--", "--lanes").expect(1, "there is no file --lanes", out=b"")
+    run("/dev/zero").expect(3, "more than 1048576 bytes", out=b"")
+    run("a", "b").expect(2, "one file at most", out=b"")
+    run("--nothing").expect(2, "no such option", out=b"")
+    run("--lanes=octal").expect(2, "signed, unsigned or hex", out=b"")
+    Ran(["bash", "-c", 'bash "$1" - <&-', "bash", place("run")]).expect(1, "standard input could not be read")
+    helped = run("--help").expect(0)
+    expect(b"Exit status: 0" in helped.out and b"three minutes" in helped.out and not helped.err, "--help")
+
+
+def outputs():
+    """Standard output that cannot be written is said, and the refusal with it."""
+    with open("/dev/full", "wb") as full:
+        run(stdout=full).expect(1, "could not be written to its end", "No space left", "8 UNDEFINED")
+        run("--lanes", stdout=full).expect(1, "could not be written", "No space left")
+        run("--help", stdout=full).expect(1)
+    Ran(["bash", "-c", 'bash "$1" >&-', "bash", place("run")]).expect(1, "standard output is closed")
+    ends, into = os.pipe()
+    os.close(ends)
+    run(stdout=into).expect(1, "could not be written to its end")
+    os.close(into)
+
+
+def lanes():
+    """Lanes as the word has them, and of each kind."""
+    for option, lane in (("--lanes", b"  z0.d   lane    0  1\n         before  0  0\n         after  -2  0\n"),
+                         ("--lanes=signed", b"         after  -2  0\n"),
+                         ("--lanes=unsigned", b"         after  18446744073709551614                    0\n"),
+                         ("--lanes=hex", b"         after  fffffffffffffffe 0000000000000000\n")):
+        out = run(option, "-", stdin=TEXT.replace(b"1 2", b"-1 -1")).expect(0).out
+        expect(lane in out, lane, "is not drawn in", out)
+
+
+def links(room):
+    """Called through a link, and from another folder."""
+    link, second = os.path.join(room, "walker"), os.path.join(room, "second")
+    os.symlink(place("run"), link)
+    os.symlink("walker", second)
+    for path in (link, second):
+        Ran(["bash", path], cwd="/").expect(3, "8 UNDEFINED", out=read("examples/paper.expected"))
+        Ran([path], cwd="/").expect(3, "8 UNDEFINED", out=read("examples/paper.expected"))
+
+
+RT = """#!/bin/sh
+# a stand-in for rt: it builds by copying, and says what rt would say
+[ "$1" = doc ] && exec "$REAL_RT" doc
+case $WHAT in
+proved) echo 'fn machine::check_length: proved'; echo 'rt: machine proved (9 s)'; echo 'rt: walk proved (10 s)'; mkdir -p target/bin target/stamp; cp "$REAL_WALK" target/bin/walk; : >target/stamp/walk ;;
+slow) sleep 4; echo 'rt: machine proved (unchanged since it was last proved)'; echo 'rt: walk proved (5 s)' ;;
+kept) echo 'rt: machine proved (unchanged since it was last proved)'; echo 'rt: walk proved (unchanged since it was last proved)' ;;
+fails) echo 'rt: walk NOT PROVED (exit 1, 2 s)'; exit 1 ;;
+esac
+echo 'rt: ok, 10 crates proved'
+"""
+
+
+def building(room):
+    """What run says while walk is built, in a copy of the scripts."""
+    copy, tools = os.path.join(room, "copy"), os.path.join(room, "tools")
+    os.mkdir(copy)
+    os.mkdir(tools)
+    shutil.copy(place("run"), copy)
+    for folder in ("bin", "examples"):
+        shutil.copytree(place(folder), os.path.join(copy, folder))
+    with open(os.path.join(tools, "rt"), "w") as file:
+        file.write(RT)
+    os.chmod(os.path.join(tools, "rt"), 0o755)
+    env = dict(os.environ, PATH=tools + ":" + os.environ["PATH"], REAL_WALK=WALK[-1], REAL_RT=shutil.which("rt") or "rt")
+    paper = read("examples/paper.expected")
+
+    def built(what, *args, **more):
+        return Ran(["bash", os.path.join(copy, "run"), *args], env=dict(env, WHAT=what, **more))
+
+    built("fails").expect(1, "not built yet", "rt: walk NOT PROVED (exit 1, 2 s)", "could not be built", out=b"")
+    first = built("proved").expect(3, out=paper).err.split("\n")
+    expect(first[0].startswith("run: the program walk is not built yet") and "about three minutes" in first[0], "the first line is", first[0])
+    expect(first[1:3] == ["rt: machine proved (9 s)", "rt: walk proved (10 s)"], "the crates are not shown:", first)
+    kept = built("kept").expect(3, out=paper).err.split("\n")
+    expect(kept[0].startswith("run: word 3") and kept[1:] == [""], "something is said where nothing was to be done:", kept)
+    slow = built("slow").expect(3, out=paper).err.split("\n")
+    expect("have changed since it was built" in slow[0] and slow[1] == "rt: walk proved (5 s)", "a second build says", slow)
+    bare = os.path.join(room, "bare")
+    os.mkdir(bare)
+    for name in "bash cat dirname head mktemp od readlink rm sed tail tee tr uname wc".split():
+        os.symlink(shutil.which(name), os.path.join(bare, name))
+    built("kept", PATH=bare).expect(1, "rt is not on the PATH", out=b"")
+    built("kept", os.path.join(copy, "examples/paper.txt"), PATH=bare).expect(1, "needs python3", out=b"")
+    built("kept", "--lanes", PATH=bare).expect(1, "--lanes needs python3", out=b"")
+    os.symlink(os.path.join(tools, "rt"), os.path.join(bare, "rt"))
+    built("kept", PATH=bare).expect(3, "8 UNDEFINED", out=paper)
+    built("kept", TMPDIR=os.path.join(room, "none")).expect(1, "temporary files", out=b"")
