@@ -1,13 +1,52 @@
 /* The engine of a vector-code viewer, for C and C++: decode, name, assemble, execute and un-execute
- * eleven of Arm's A64 adding instructions. Link with libln.a.
+ * eleven of Arm's A64 adding instructions. Link with libln.a (x86-64 Linux).
  *
- * Nothing has to be checked before a call: every call ends for every input, with LN_DONE or with a
- * refusal. Refusals are tested in the order of their numbers. A refusal gives zero in place of every
- * value and changes no lent byte.
+ * Calls. No value has to be checked before a call: every call ends for every k, number, length and
+ * content of the lent bytes, with LN_DONE or with a refusal. A refusal gives zero in place of every
+ * value (but struct ln_word keeps its place) and changes no lent byte. Refusals are tested in the order
+ * of their numbers, except that LN_OUT is tested before LN_UNKNOWN.
  *
- * Bytes are lent as a pointer and a length. The pointer of an empty part may be anything. Bytes that
- * a call may write must not overlap anything else that is lent to the same call. The library keeps
- * no pointer after a call, and has no state of its own.
+ * What no call can test, and its caller owes: bytes are lent as a pointer and a length, and the
+ * pointer reaches as many bytes as the length says (that of an empty part may be anything); bytes that
+ * a call may write, those without const, do not overlap anything else that is lent to the same call.
+ * The library keeps no pointer after a call and has no state of its own: calls on other bytes may run
+ * at the same time.
+ *
+ * The machine. A length k, 1 to 16, stands for vectors of 16k bytes. The vector file is Z0 to Z31 one
+ * after the other, 16k bytes each; the predicate file is P0 to P15, 2k bytes each. V<n> is the low 16
+ * bytes of Z<n>, and a word that writes V<n> sets the higher bytes of Z<n> to zero. P0 to P7 can govern.
+ *
+ * Lanes. A size is 0, 1, 2 or 3 for lanes of 1, 2, 4 or 8 bytes; their letters are b, h, s and d. With
+ * w bytes to a lane, lane e is the bytes e*w up to e*w + w - 1 of its register, the lowest byte first;
+ * lane 0 is the least significant. Lane e is active exactly when bit e*w of the predicate is set: bit
+ * (e*w) % 8 of its byte (e*w) / 8, bit 0 being the lowest. The other bits of a predicate do not matter:
+ * at size 1 the first byte 05 makes lanes 0 and 1 active, and 03 lane 0 alone.
+ *
+ * A program is 0 to 256 words of four bytes, the lowest byte first: 04002020 is the bytes 20 20 00 04.
+ *
+ * A journal is what steps back need. The caller lends it and ln_fresh writes it first:
+ *
+ *     byte 0   'L' 'N' 'J'
+ *     byte 3   version, 16 bits, the lower byte first: LN_JOURNAL_VERSION
+ *     byte 5   k
+ *     byte 6   count, 16 bits, the lower byte first
+ *     byte 8   entries of 1 + 16k bytes, the oldest first: a step's destination number, its old bytes
+ *
+ * The position is the journal's count: how many steps were made and not taken back, and so the number
+ * of the word, from 0, that the next step executes. A journal of n bytes has room for
+ * (n - 8) / (1 + 16k) entries, 256 at most; the largest, of 65,536 bytes, holds 256, but 254 at k = 16.
+ * It is well formed if mark, version and k are right, the count is at most 256 and at most its room,
+ * and each counted entry's number is at most 31. Bytes past the counted entries are not looked at.
+ *
+ * A session is files and a program to start from, and nothing more:
+ *
+ *     byte 0             'L' 'N' 'W'
+ *     byte 3             version, 16 bits, the lower byte first: LN_SESSION_VERSION
+ *     byte 5             k
+ *     byte 6             number of words, 16 bits, the lower byte first
+ *     byte 8             vector file
+ *     byte 8 + 512k      predicate file
+ *     byte 8 + 544k      words
  */
 #ifndef LN_H
 #define LN_H
@@ -19,7 +58,14 @@
 extern "C" {
 #endif
 
-/* The answer numbers. */
+/* The version of this header and its library. It grows with every change that a program can notice. */
+#define LN_VERSION 1
+
+/* The versions of the stored forms. */
+#define LN_JOURNAL_VERSION 1
+#define LN_SESSION_VERSION 1
+
+/* The answer numbers. Later versions may have more. */
 enum ln_number {
     LN_DONE = 0,      /* done */
     LN_LENGTH = 1,    /* k is not 1 to 16 */
@@ -38,22 +84,22 @@ enum ln_number {
     LN_SESSION = 14   /* not a session */
 };
 
-/* The rows of the table of words, in its order. */
+/* The rows of the table of words, in its order; s is signed, u unsigned. Later versions may have more. */
 enum ln_row {
-    LN_SADDV = 0,
-    LN_UADDV = 1,
-    LN_ADDQV = 2,
-    LN_SADDLV = 3,
+    LN_SADDV = 0,  /* the sum of the active lanes, 64 bits; sizes 0 to 2 */
+    LN_UADDV = 1,  /* the same; sizes 0 to 3 */
+    LN_ADDQV = 2,  /* for each place in a segment of 16 bytes, the sum of the active lanes there; 0 to 3 */
+    LN_SADDLV = 3, /* the sum of all lanes of V<n>, at twice the width; 0, 1, and 2 where q is 1 */
     LN_UADDLV = 4,
-    LN_SADALP = 5,
+    LN_SADALP = 5, /* each active lane e of Z<d> gains the half-width lanes 2e and 2e + 1 of Z<n>; 1 to 3 */
     LN_UADALP = 6,
-    LN_SADDLB = 7,
-    LN_SADDLT = 8,
+    LN_SADDLB = 7, /* lane e is the sum of the half-width lanes 2e of Z<n> and Z<m>; 1 to 3 */
+    LN_SADDLT = 8, /* the same of lanes 2e + 1 */
     LN_UADDLB = 9,
     LN_UADDLT = 10
 };
 
-/* Sizes of the machine. A length k stands for vectors of 16k bytes. */
+/* Sizes of the machine. */
 #define LN_LEAST_K 1
 #define LN_MOST_K 16
 #define LN_VECTOR_REGISTERS 32
@@ -64,6 +110,12 @@ enum ln_row {
 #define LN_VECTOR_FILE_BYTES(k) (LN_VECTOR_REGISTERS * LN_VECTOR_BYTES(k))
 #define LN_PREDICATE_FILE_BYTES(k) (LN_PREDICATE_REGISTERS * LN_PREDICATE_BYTES(k))
 
+/* Lanes: how many bytes one has, how many a vector has, and the predicate bit of lane e. */
+#define LN_MOST_SIZE 3
+#define LN_LANE_BYTES(size) ((size_t)1 << (size))
+#define LN_LANES(k, size) (LN_VECTOR_BYTES(k) >> (size))
+#define LN_LANE_BIT(e, size) ((size_t)(e) << (size))
+
 /* Sizes of what is lent. */
 #define LN_WORD_BYTES 4
 #define LN_MOST_WORDS 256
@@ -71,12 +123,53 @@ enum ln_row {
 #define LN_LEAST_JOURNAL_BYTES 8
 #define LN_MOST_JOURNAL_BYTES 65536
 #define LN_ENTRY_BYTES(k) (1 + LN_VECTOR_BYTES(k))
+#define LN_JOURNAL_BYTES(k, entries) (LN_JOURNAL_HEADER_BYTES + (size_t)(entries) * LN_ENTRY_BYTES(k))
 #define LN_LEAST_TEXT_OUT 32
 #define LN_LONGEST_TEXT 26
+#define LN_LONGEST_LINE 546
 #define LN_PANEL_ROWS 16
 #define LN_PANEL_ROW_BYTES 16
 #define LN_PANEL_BYTES 256
 #define LN_SESSION_HEADER_BYTES 8
+
+/* The name of an answer number, as the enumeration has it: "DONE", "LENGTH" and so on. */
+static inline const char *ln_refusal_name(uint64_t number)
+{
+    switch (number) {
+    case LN_DONE:
+        return "DONE";
+    case LN_LENGTH:
+        return "LENGTH";
+    case LN_FILE:
+        return "FILE";
+    case LN_PROGRAM:
+        return "PROGRAM";
+    case LN_ROOM:
+        return "ROOM";
+    case LN_JOURNAL:
+        return "JOURNAL";
+    case LN_END:
+        return "END";
+    case LN_UNKNOWN:
+        return "UNKNOWN";
+    case LN_UNDEFINED:
+        return "UNDEFINED";
+    case LN_FULL:
+        return "FULL";
+    case LN_EMPTY:
+        return "EMPTY";
+    case LN_OUT:
+        return "OUT";
+    case LN_TEXT:
+        return "TEXT";
+    case LN_RANGE:
+        return "RANGE";
+    case LN_SESSION:
+        return "SESSION";
+    default:
+        return "no answer number";
+    }
+}
 
 /* A number and, if it is LN_DONE, a value. */
 struct ln_answer {
@@ -84,8 +177,9 @@ struct ln_answer {
     uint64_t value;
 };
 
-/* The row and the fields of a word: size (bits 23:22), source n (9:5), destination d (4:0),
- * governing predicate g (12:10), second source m (20:16), q (30). */
+/* The row (enum ln_row) and the fields of a word: size (bits 23:22), source n (9:5), destination d (4:0),
+ * governing predicate g (12:10), second source m (20:16), q (30). A field that the row does not have
+ * is 0. */
 struct ln_fields {
     uint64_t number;
     uint64_t row;
@@ -127,11 +221,21 @@ struct ln_session {
 struct ln_fields ln_decode(uint32_t word);
 
 /* Writes a word's text, without a terminating zero, to the start of `out`; the value is its length,
- * at most 26, and the bytes past it stay.
+ * at most LN_LONGEST_TEXT, and the bytes past it stay.
  * LN_UNKNOWN, LN_UNDEFINED; before these LN_OUT: `out` has under 32 bytes. */
 struct ln_answer ln_text(uint32_t word, uint8_t *out, size_t out_len);
 
-/* The word that has this text.
+/* The word that has this text, and nothing else: exactly as ln_text writes it. That is lower case, one
+ * space after the name, a comma and one space between operands, decimal numbers without leading zeros,
+ * no space, newline or zero before or after it. With T for the letter of the size, H for that of half
+ * its width, R for that of twice its width, and A for 8b, 16b, 4h, 8h, 4s or 2d:
+ *
+ *     saddv dD, pG, zN.T           uaddv alike
+ *     addqv vD.A, pG, zN.T         A = 16b, 8h, 4s, 2d
+ *     saddlv RD, vN.A              uaddlv alike; A = 8b, 16b, 4h, 8h, 4s
+ *     sadalp zD.T, pG/m, zN.H      uadalp alike
+ *     saddlb zD.T, zN.H, zM.H      saddlt, uaddlb, uaddlt alike
+ *
  * LN_TEXT: no accepted word has it. */
 struct ln_answer ln_assemble(const uint8_t *text, size_t text_len);
 
@@ -139,13 +243,14 @@ struct ln_answer ln_assemble(const uint8_t *text, size_t text_len);
  * LN_LENGTH, LN_ROOM. */
 uint64_t ln_fresh(size_t k, uint8_t *journal, size_t journal_len);
 
-/* Executes the word at the journal's position and appends the destination's old bytes to the journal.
- * `z` is the vector file, `p` the predicate file.
+/* Executes the word at the journal's position and appends the destination's old bytes to the journal:
+ * the position is one more then. `z` is the vector file, `p` the predicate file.
  * LN_LENGTH, LN_FILE, LN_PROGRAM, LN_ROOM, LN_JOURNAL, LN_END, LN_UNKNOWN, LN_UNDEFINED, LN_FULL. */
 uint64_t ln_step(size_t k, uint8_t *z, size_t z_len, const uint8_t *p, size_t p_len,
                  const uint8_t *program, size_t program_len, uint8_t *journal, size_t journal_len);
 
-/* Takes the last step back: restores the last entry's bytes, clears that entry and lowers the count.
+/* Takes the last step back: restores the last entry's bytes, sets that entry to zeros and lowers the
+ * count: the position is one less then.
  * LN_LENGTH, LN_FILE, LN_ROOM, LN_JOURNAL, LN_EMPTY. */
 uint64_t ln_back(size_t k, uint8_t *z, size_t z_len, const uint8_t *p, size_t p_len,
                  uint8_t *journal, size_t journal_len);
@@ -157,7 +262,8 @@ struct ln_place ln_register_place(size_t k, const uint8_t *z, size_t z_len, cons
                                   size_t p_len, uint64_t predicate, size_t number);
 
 /* Writes the addqv panel to the first 256 bytes of `out`: sixteen rows of sixteen bytes, row s being
- * segment s of the source with inactive lanes zeroed, rows from k on zero. Bytes past 256 stay.
+ * segment s of the source (its bytes 16s up to 16s + 15) with inactive lanes zeroed, rows from k on
+ * zero. Bytes past 256 stay.
  * LN_LENGTH, LN_FILE; LN_OUT: `out` has under 256 bytes; LN_RANGE: `source` over 31, `governing`
  * over 7 or `size` over 3. */
 uint64_t ln_panel(size_t k, const uint8_t *z, size_t z_len, const uint8_t *p, size_t p_len,
@@ -180,10 +286,12 @@ struct ln_word ln_read_word(const uint8_t *program, size_t program_len, size_t a
 struct ln_session ln_read_session(const uint8_t *bytes, size_t bytes_len);
 
 /* Writes the line of the step at `position`, which answered `number` and left this vector file, at the
- * front of `out`; the value is its length, and bytes past it stay. After LN_DONE the line has the
- * word's text and its destination register, after a refusal the word in hex.
- * LN_LENGTH, LN_FILE, LN_PROGRAM; LN_END: no word at `position`; LN_OUT: `out` has under 546 bytes;
- * LN_UNKNOWN, LN_UNDEFINED: `number` is LN_DONE and the word is not accepted. */
+ * front of `out`; the value is its length, at most LN_LONGEST_LINE, and bytes past it stay. The line has
+ * the position and the number in decimal, then after LN_DONE the word's text and its destination
+ * register in hex, highest byte first, and after a refusal the word in eight hex digits. Fields are one
+ * space apart. It ends in a newline, and no zero follows.
+ * LN_LENGTH, LN_FILE, LN_PROGRAM; LN_END: no word at `position`; LN_OUT: `out` has under LN_LONGEST_LINE
+ * bytes; LN_UNKNOWN, LN_UNDEFINED: `number` is LN_DONE and the word is not accepted. */
 struct ln_answer ln_write_line(uint8_t *out, size_t out_len, size_t k, const uint8_t *z, size_t z_len,
                                const uint8_t *p, size_t p_len, const uint8_t *program,
                                size_t program_len, size_t position, uint8_t number);

@@ -1,6 +1,8 @@
-use ghishmadul::{assemble, back, fresh, predicate_file_bytes, step, vector_file_bytes, Refusal};
+use ghishmadul::{
+    assemble, back, fresh, journal_bytes, predicate_file_bytes, step, vector_file_bytes, Refusal,
+};
 
-fn main() {
+fn main() -> Result<(), Refusal> {
     // Registers of 32 bytes: Z1 holds ones, P0 governs every byte but the first.
     let k = 2;
     let mut z = vec![0; vector_file_bytes(k)];
@@ -11,22 +13,29 @@ fn main() {
     // A program of two words.
     let mut program = Vec::new();
     for line in ["uaddv d1, p0, z1.b", "uaddv d0, p0, z1.b"] {
-        program.extend(assemble(line.as_bytes()).unwrap().to_le_bytes());
+        program.extend(assemble(line)?.to_le_bytes());
     }
 
     // A journal with room for two entries.
-    let mut journal = vec![0; 8 + 2 * 33];
-    fresh(k, &mut journal).unwrap();
+    let mut journal = vec![0; journal_bytes(k, 2)];
+    fresh(k, &mut journal)?;
 
     // Forward: Z1 is overwritten by the sum of its own active lanes.
-    step(k, &mut z, &p, &program, &mut journal).unwrap();
+    step(k, &mut z, &p, &program, &mut journal)?;
+    println!("after a step Z1 begins {:?}", &z[32..36]);
     assert_eq!(z[32], 31);
-    step(k, &mut z, &p, &program, &mut journal).unwrap();
-    assert_eq!(step(k, &mut z, &p, &program, &mut journal), Err(Refusal::End));
+    step(k, &mut z, &p, &program, &mut journal)?;
+    let third = step(k, &mut z, &p, &program, &mut journal);
+    println!("a third step: {:?}", third);
+    assert_eq!(third, Err(Refusal::End));
 
     // Back: Z1 is what it was.
-    back(k, &mut z, &p, &mut journal).unwrap();
-    back(k, &mut z, &p, &mut journal).unwrap();
+    back(k, &mut z, &p, &mut journal)?;
+    back(k, &mut z, &p, &mut journal)?;
+    println!("after two steps back Z1 begins {:?}", &z[32..36]);
     assert!(z[32..64].iter().all(|&byte| byte == 1));
-    assert_eq!(back(k, &mut z, &p, &mut journal), Err(Refusal::Empty));
+    let third = back(k, &mut z, &p, &mut journal);
+    println!("a third step back: {:?}", third);
+    assert_eq!(third, Err(Refusal::Empty));
+    Ok(())
 }

@@ -1,9 +1,9 @@
 use ghishmadul::{
-    predicate_file_bytes, register, rows, subtotal, vector_file_bytes, Kind, Refusal,
+    predicate_file_bytes, register, rows, subtotal, vector_file_bytes, Kind, Lanes, Refusal,
 };
 
-fn main() {
-    // Z3 holds sixteen lanes of 16 bits; P2 governs lanes 0 and 9.
+fn main() -> Result<(), Refusal> {
+    // Z3 holds sixteen lanes of 16 bits; P2 governs lanes 0 and 9: bits 0 and 18.
     let k = 2;
     let mut z = vec![0; vector_file_bytes(k)];
     let mut p = vec![0; predicate_file_bytes(k)];
@@ -14,18 +14,27 @@ fn main() {
     p[2 * 4 + 2] = 0b100;
 
     // The parts of the files that hold them, to be drawn.
-    assert_eq!(register(k, &z, &p, Kind::Vector, 3).unwrap()[..4], [100, 0, 101, 0]);
-    assert_eq!(register(k, &z, &p, Kind::Predicate, 2).unwrap(), [1, 0, 4, 0]);
+    let (z3, p2) =
+        (register(k, &z, &p, Kind::Vector, 3)?, register(k, &z, &p, Kind::Predicate, 2)?);
+    println!("Z3 is {:?}", z3);
+    println!("P2 is {:?}", p2);
+    assert_eq!(z3[..4], [100, 0, 101, 0]);
+    assert_eq!(p2, [1, 0, 4, 0]);
     assert_eq!(register(k, &z, &p, Kind::Predicate, 16), Err(Refusal::Range));
 
     // The panel: a row for each segment of sixteen bytes, inactive lanes zeroed.
-    let panel = rows(k, &z, &p, 3, 2, 1).unwrap();
+    let lanes = Lanes { source: 3, governing: 2, size: 1 };
+    let panel = rows(k, &z, &p, lanes)?;
+    println!("its segments with inactive lanes zeroed: {:?}", &panel[..2]);
     assert_eq!(panel[0][..4], [100, 0, 0, 0]);
     assert_eq!(panel[1][..4], [0, 0, 109, 0]);
     assert_eq!(panel[2], [0; 16]);
 
     // Subtotals of active lanes.
-    assert_eq!(subtotal(k, &z, &p, 3, 2, 1, false, 0, 16), Ok(209));
-    assert_eq!(subtotal(k, &z, &p, 3, 2, 1, false, 1, 9), Ok(0));
-    assert_eq!(subtotal(k, &z, &p, 3, 2, 1, false, 1, 17), Err(Refusal::Range));
+    let all = subtotal(k, &z, &p, lanes, false, 0..16)?;
+    println!("the sum of its active lanes is {}", all);
+    assert_eq!(all, 209);
+    assert_eq!(subtotal(k, &z, &p, lanes, false, 1..9), Ok(0));
+    assert_eq!(subtotal(k, &z, &p, lanes, false, 1..17), Err(Refusal::Range));
+    Ok(())
 }

@@ -2,7 +2,8 @@
 
 use crate::checks;
 use crate::lanes::{active, sum_of_active};
-use ghishmadul::{Kind, Place, Refusal, Word};
+use ghishmadul::{Kind, Lanes, Place, Refusal, Word};
+use std::ops::Range;
 
 fn range(inside: bool) -> Result<(), Refusal> {
     if inside {
@@ -28,23 +29,24 @@ pub fn register_place(
     Ok(Place { kind, start: number * bytes, bytes })
 }
 
-pub fn panel(
+/// The bytes of the source and of the predicate that governs it.
+fn parts<'a>(
     k: usize,
-    z: &[u8],
-    p: &[u8],
-    source: usize,
-    governing: usize,
-    size: usize,
-    out: &mut [u8],
-) -> Result<(), Refusal> {
+    z: &'a [u8],
+    p: &'a [u8],
+    lanes: Lanes,
+) -> Result<(&'a [u8], &'a [u8]), Refusal> {
+    range(lanes.source <= 31 && lanes.governing <= 7 && lanes.size <= 3)?;
+    Ok((&z[lanes.source * 16 * k..][..16 * k], &p[lanes.governing * 2 * k..][..2 * k]))
+}
+
+pub fn panel(k: usize, z: &[u8], p: &[u8], lanes: Lanes, out: &mut [u8]) -> Result<(), Refusal> {
     checks::files(k, z, p)?;
     if out.len() < 256 {
         return Err(Refusal::Out);
     }
-    range(source <= 31 && governing <= 7 && size <= 3)?;
-    let source = &z[source * 16 * k..][..16 * k];
-    let governing = &p[governing * 2 * k..][..2 * k];
-    let width = 1 << size;
+    let (source, governing) = parts(k, z, p, lanes)?;
+    let width = 1 << lanes.size;
 
     let out = &mut out[..256];
     out.fill(0);
@@ -57,25 +59,19 @@ pub fn panel(
     Ok(())
 }
 
-#[allow(clippy::too_many_arguments)]
 pub fn subtotal(
     k: usize,
     z: &[u8],
     p: &[u8],
-    source: usize,
-    governing: usize,
-    size: usize,
+    lanes: Lanes,
     signed: bool,
-    a: usize,
-    b: usize,
+    numbers: Range<usize>,
 ) -> Result<u64, Refusal> {
     checks::files(k, z, p)?;
-    range(source <= 31 && governing <= 7 && size <= 3)?;
-    let width = 1 << size;
-    range(a <= b && b <= 16 * k / width)?;
-    let source = &z[source * 16 * k..][..16 * k];
-    let governing = &p[governing * 2 * k..][..2 * k];
-    Ok(sum_of_active(source, governing, width, signed, a..b))
+    let (source, governing) = parts(k, z, p, lanes)?;
+    let width = 1 << lanes.size;
+    range(numbers.start <= numbers.end && numbers.end <= 16 * k / width)?;
+    Ok(sum_of_active(source, governing, width, signed, numbers))
 }
 
 pub fn read_word(program: &[u8], at: usize) -> Result<Word, Refusal> {

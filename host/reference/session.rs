@@ -70,19 +70,17 @@ pub fn write_line(
     p: &[u8],
     program: &[u8],
     position: usize,
-    number: u8,
+    answer: Result<(), Refusal>,
 ) -> Result<usize, Refusal> {
     checks::files(k, z, p)?;
     let word = read_word(program, position)?.word;
     if out.len() < 546 {
         return Err(Refusal::Out);
     }
-    let text = if number == 0 {
+    if answer.is_ok() {
         decode(word)?;
-        line(k, z, word, position, Ok(()))
-    } else {
-        format!("{} {} {:08x}\n", position, number, word)
-    };
+    }
+    let text = line(k, z, word, position, answer);
     out[..text.len()].copy_from_slice(text.as_bytes());
     Ok(text.len())
 }

@@ -1,66 +1,99 @@
 //! The engine's boundary, as `include/ln.h` has it: the only place where it is declared to Rust.
 //!
-//! A part is lent as a pointer and a length. The safe functions of this crate lend slices; call these
-//! only where that does not serve.
+//! A part is lent as a pointer and a length; the header says what its caller owes. The safe functions
+//! of this crate lend slices; call these only where that does not serve.
 
+/// A number and, if it is 0, a value.
 #[repr(C)]
 #[derive(Clone, Copy, Debug)]
 pub struct Answer {
+    /// 0, or the refusal's number.
     pub number: u64,
+    /// The value, 0 with a refusal.
     pub value: u64,
 }
 
+/// The row and the fields of a word, 0 with a refusal.
 #[repr(C)]
 #[derive(Clone, Copy, Debug)]
 pub struct Fields {
+    /// 0, or the refusal's number.
     pub number: u64,
+    /// The row of the table of words.
     pub row: u64,
+    /// Bits 23:22.
     pub size: u64,
+    /// Bits 9:5, the source.
     pub n: u64,
+    /// Bits 4:0, the destination.
     pub d: u64,
+    /// Bits 12:10, the governing predicate.
     pub g: u64,
+    /// Bits 20:16, the second source.
     pub m: u64,
+    /// Bit 30.
     pub q: u64,
 }
 
+/// Where a register's bytes stand, 0 with a refusal.
 #[repr(C)]
 #[derive(Clone, Copy, Debug)]
 pub struct Place {
+    /// 0, or the refusal's number.
     pub number: u64,
+    /// 1 for the predicate file, 0 for the vector file.
     pub predicate: u64,
+    /// The number of its first byte in the file.
     pub start: u64,
+    /// How many bytes it has.
     pub bytes: u64,
 }
 
+/// A word of a program, and the place after it.
 #[repr(C)]
 #[derive(Clone, Copy, Debug)]
 pub struct Word {
+    /// 0, or the refusal's number.
     pub number: u64,
+    /// The word, 0 with a refusal.
     pub word: u64,
+    /// The place after it; with a refusal the place that was asked for.
     pub at: u64,
 }
 
+/// A session's length and number of words, and where its parts start; 0 with a refusal.
 #[repr(C)]
 #[derive(Clone, Copy, Debug)]
 pub struct Session {
+    /// 0, or the refusal's number.
     pub number: u64,
+    /// The length.
     pub k: u64,
+    /// The number of words.
     pub count: u64,
+    /// The first byte of the vector file.
     pub vectors: u64,
+    /// The first byte of the predicate file.
     pub predicates: u64,
+    /// The first byte of the words.
     pub program: u64,
 }
 
 #[link(name = "ln", kind = "static")]
 extern "C" {
+    /// The row and the fields of a word.
     pub fn ln_decode(word: u32) -> Fields;
 
+    /// Writes a word's text to the start of `out`.
     pub fn ln_text(word: u32, out: *mut u8, out_len: usize) -> Answer;
 
+    /// The word that has this text.
     pub fn ln_assemble(text: *const u8, text_len: usize) -> Answer;
 
+    /// Writes a fresh journal.
     pub fn ln_fresh(k: usize, journal: *mut u8, journal_len: usize) -> u64;
 
+    /// Executes the word at the journal's position.
     pub fn ln_step(
         k: usize,
         z: *mut u8,
@@ -73,6 +106,7 @@ extern "C" {
         journal_len: usize,
     ) -> u64;
 
+    /// Takes the last step back.
     pub fn ln_back(
         k: usize,
         z: *mut u8,
@@ -83,6 +117,7 @@ extern "C" {
         journal_len: usize,
     ) -> u64;
 
+    /// Where a register's bytes stand; a `predicate` that is not 0 asks for a predicate register.
     pub fn ln_register_place(
         k: usize,
         z: *const u8,
@@ -93,6 +128,7 @@ extern "C" {
         number: usize,
     ) -> Place;
 
+    /// Writes the addqv panel to the first 256 bytes of `out`.
     pub fn ln_panel(
         k: usize,
         z: *const u8,
@@ -106,6 +142,7 @@ extern "C" {
         out_len: usize,
     ) -> u64;
 
+    /// The sum of the active lanes from `a` up to but without `b`; `is_signed` is 0 for unsigned lanes.
     pub fn ln_subtotal(
         k: usize,
         z: *const u8,
@@ -120,10 +157,13 @@ extern "C" {
         b: usize,
     ) -> Answer;
 
+    /// The word with number `at` of a program.
     pub fn ln_read_word(program: *const u8, program_len: usize, at: usize) -> Word;
 
+    /// Where the parts of a session stand.
     pub fn ln_read_session(bytes: *const u8, bytes_len: usize) -> Session;
 
+    /// Writes the line of a step to the start of `out`.
     pub fn ln_write_line(
         out: *mut u8,
         out_len: usize,

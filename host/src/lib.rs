@@ -1,17 +1,30 @@
 //! Safe Rust over the proved engine of a vector-code viewer: it decodes, names, assembles, executes
 //! and un-executes eleven of Arm's A64 adding instructions.
 //!
+//! A [`Machine`] owns the registers, a program and the journal that steps back need; most programs
+//! want that. The functions beside it are the engine's calls over slices of the caller's.
+//!
 //! Nothing has to be checked before a call: every call ends for every input, with its answer or with a
 //! [`Refusal`], and a refusal changes no byte that was lent.
 //!
 //! A length `k` is 1 to 16. The vector file `z` has `512 * k` bytes, 32 registers of `16 * k`; the
-//! predicate file `p` has `32 * k` bytes, 16 registers of `2 * k`. Lane 0 is the least significant and
-//! bytes are little-endian everywhere. A program is whole 32-bit words, at most 256 of them.
+//! predicate file `p` has `32 * k` bytes, 16 registers of `2 * k`. A size is 0, 1, 2 or 3 for lanes of
+//! 1, 2, 4 or 8 bytes. Lane 0 is the least significant and bytes are little-endian everywhere. A lane
+//! of `w` bytes with number `e` is active exactly when bit `e * w` of its predicate is set, counted
+//! from bit 0 of the first byte; the other bits do not matter. A program is whole 32-bit words, at
+//! most 256 of them. The position is the number of steps that were made and not taken back, and so
+//! the number of the next word. `include/ln.h` has the layouts of journals and sessions.
+
+#![deny(missing_docs)]
 
 pub mod boundary;
+mod machine;
 mod refusal;
 
+pub use machine::Machine;
 pub use refusal::Refusal;
+
+use std::ops::Range;
 
 /// The least length.
 pub const LEAST_K: usize = 1;
@@ -23,26 +36,43 @@ pub const VECTOR_REGISTERS: usize = 32;
 pub const PREDICATE_REGISTERS: usize = 16;
 /// The most words of a program.
 pub const MOST_WORDS: usize = 256;
-/// The most bytes of a journal; the least are its header's 8.
+/// The bytes of a journal before its entries, and the least of a whole journal.
+pub const JOURNAL_HEADER_BYTES: usize = 8;
+/// The most bytes of a journal.
 pub const MOST_JOURNAL_BYTES: usize = 65_536;
 /// The least bytes of an output for [`text`].
 pub const LEAST_TEXT_OUT: usize = 32;
+/// The bytes of the longest line, and the least of an output for [`write_line`].
+pub const LONGEST_LINE: usize = 546;
 /// The bytes of a panel.
 pub const PANEL_BYTES: usize = 256;
 
 /// The bytes of a vector register; a predicate register has an eighth as many.
+///
+/// This and the other sizes are for lengths from 1 to 16. For a `k` that is too large for a number to
+/// tell, they give the largest number.
 pub const fn vector_bytes(k: usize) -> usize {
-    16 * k
+    k.saturating_mul(16)
+}
+
+/// The bytes of a predicate register.
+pub const fn predicate_bytes(k: usize) -> usize {
+    k.saturating_mul(2)
 }
 
 /// The bytes of the vector file.
 pub const fn vector_file_bytes(k: usize) -> usize {
-    VECTOR_REGISTERS * vector_bytes(k)
+    vector_bytes(k).saturating_mul(VECTOR_REGISTERS)
 }
 
 /// The bytes of the predicate file.
 pub const fn predicate_file_bytes(k: usize) -> usize {
-    PREDICATE_REGISTERS * vector_bytes(k) / 8
+    predicate_bytes(k).saturating_mul(PREDICATE_REGISTERS)
+}
+
+/// The bytes of a journal that has room for so many entries.
+pub const fn journal_bytes(k: usize, entries: usize) -> usize {
+    vector_bytes(k).saturating_add(1).saturating_mul(entries).saturating_add(JOURNAL_HEADER_BYTES)
 }
 
 /// The row and the fields of a word.
@@ -67,33 +97,56 @@ pub struct Fields {
 /// A vector register or a predicate register.
 #[derive(Clone, Copy, Debug, PartialEq, Eq)]
 pub enum Kind {
+    /// Z0 to Z31.
     Vector,
+    /// P0 to P15.
     Predicate,
 }
 
 /// Where a register's bytes stand in the file of its kind.
 #[derive(Clone, Copy, Debug, PartialEq, Eq)]
 pub struct Place {
+    /// The file's kind.
     pub kind: Kind,
+    /// The number of its first byte in the file.
     pub start: usize,
+    /// How many bytes it has.
     pub bytes: usize,
 }
 
 /// A word of a program, and the place after it.
 #[derive(Clone, Copy, Debug, PartialEq, Eq)]
 pub struct Word {
+    /// The word.
     pub word: u32,
+    /// The place after it.
     pub at: usize,
 }
 
 /// A session's length and number of words, and where its parts start.
 #[derive(Clone, Copy, Debug, PartialEq, Eq)]
 pub struct Session {
+    /// The length.
     pub k: usize,
+    /// The number of words.
     pub count: usize,
+    /// The first byte of the vector file.
     pub vectors: usize,
+    /// The first byte of the predicate file.
     pub predicates: usize,
+    /// The first byte of the words.
     pub program: usize,
+}
+
+/// The lanes of a vector register at a size, and the predicate register that governs them.
+#[derive(Clone, Copy, Debug, PartialEq, Eq)]
+pub struct Lanes {
+    /// The vector register, 0 to 31.
+    pub source: usize,
+    /// The governing predicate register, 0 to 7.
+    pub governing: usize,
+    /// 0, 1, 2 or 3 for lanes of 1, 2, 4 or 8 bytes.
+    pub size: usize,
 }
 
 /// The row and the fields of a word.
@@ -127,11 +180,22 @@ pub fn text(word: u32, out: &mut [u8]) -> Result<usize, Refusal> {
     Ok(answer.value as usize)
 }
 
-/// The word that has this text.
+/// A word's text.
+///
+/// Refused: [`Refusal::Unknown`], [`Refusal::Undefined`]. The example is [`decode`]'s.
+pub fn text_of(word: u32) -> Result<String, Refusal> {
+    let mut out = [0; LEAST_TEXT_OUT];
+    let length = text(word, &mut out)?;
+    Ok(String::from_utf8_lossy(&out[..length]).into_owned())
+}
+
+/// The word that has this text, exactly as [`text`] writes it: another space, letter case or number
+/// with leading zeros is refused.
 ///
 /// Refused: [`Refusal::Text`] where no accepted word has it. The example is [`decode`]'s.
 #[inline]
-pub fn assemble(text: &[u8]) -> Result<u32, Refusal> {
+pub fn assemble(text: impl AsRef<[u8]>) -> Result<u32, Refusal> {
+    let text = text.as_ref();
     let answer = unsafe { boundary::ln_assemble(text.as_ptr(), text.len()) };
     Refusal::check(answer.number)?;
     Ok(answer.value as u32)
@@ -246,17 +310,10 @@ pub fn register<'a>(
 /// segment s of the source with inactive lanes zeroed, rows from k on zero. The bytes past it stay.
 ///
 /// Refused: [`Refusal::Length`], [`Refusal::File`], [`Refusal::Out`] where `out` has under 256 bytes,
-/// [`Refusal::Range`] where `source` is over 31, `governing` over 7 or `size` over 3.
+/// [`Refusal::Range`] where the source is over 31, the governing predicate over 7 or the size over 3.
 #[inline]
-pub fn panel(
-    k: usize,
-    z: &[u8],
-    p: &[u8],
-    source: usize,
-    governing: usize,
-    size: usize,
-    out: &mut [u8],
-) -> Result<(), Refusal> {
+pub fn panel(k: usize, z: &[u8], p: &[u8], lanes: Lanes, out: &mut [u8]) -> Result<(), Refusal> {
+    let Lanes { source, governing, size } = lanes;
     Refusal::check(unsafe {
         boundary::ln_panel(
             k,
@@ -276,16 +333,9 @@ pub fn panel(
 /// The addqv panel by value, refused as [`panel`] is, but never for its output. The example is
 /// [`register`]'s.
 #[inline]
-pub fn rows(
-    k: usize,
-    z: &[u8],
-    p: &[u8],
-    source: usize,
-    governing: usize,
-    size: usize,
-) -> Result<[[u8; 16]; 16], Refusal> {
+pub fn rows(k: usize, z: &[u8], p: &[u8], lanes: Lanes) -> Result<[[u8; 16]; 16], Refusal> {
     let mut out = [0; PANEL_BYTES];
-    panel(k, z, p, source, governing, size, &mut out)?;
+    panel(k, z, p, lanes, &mut out)?;
     let mut rows = [[0; 16]; 16];
     for (row, bytes) in rows.iter_mut().zip(out.chunks_exact(16)) {
         row.copy_from_slice(bytes);
@@ -293,24 +343,22 @@ pub fn rows(
     Ok(rows)
 }
 
-/// The sum, modulo 2^64, of the source's active lanes from `a` up to but without `b`.
+/// The sum, modulo 2^64, of the active lanes with the numbers of `range`, each read as a signed or an
+/// unsigned number.
 ///
-/// Refused: [`Refusal::Length`], [`Refusal::File`], [`Refusal::Range`] where `source` is over 31,
-/// `governing` over 7, `size` over 3, `a` over `b`, or `b` over the number of lanes. The example is
-/// [`register`]'s.
-#[allow(clippy::too_many_arguments)]
+/// Refused: [`Refusal::Length`], [`Refusal::File`], [`Refusal::Range`] where the source is over 31, the
+/// governing predicate over 7, the size over 3, or the range ends before its start or above the number
+/// of lanes. The example is [`register`]'s.
 #[inline]
 pub fn subtotal(
     k: usize,
     z: &[u8],
     p: &[u8],
-    source: usize,
-    governing: usize,
-    size: usize,
+    lanes: Lanes,
     signed: bool,
-    a: usize,
-    b: usize,
+    range: Range<usize>,
 ) -> Result<u64, Refusal> {
+    let Lanes { source, governing, size } = lanes;
     let answer = unsafe {
         boundary::ln_subtotal(
             k,
@@ -322,8 +370,8 @@ pub fn subtotal(
             governing,
             size,
             u64::from(signed),
-            a,
-            b,
+            range.start,
+            range.end,
         )
     };
     Refusal::check(answer.number)?;
@@ -358,12 +406,12 @@ pub fn read_session(bytes: &[u8]) -> Result<Session, Refusal> {
     })
 }
 
-/// Writes the line of the step at `position`, which answered `number` and left this vector file, at
-/// the front of `out`, and gives its length. The bytes past it stay.
+/// Writes the line of the step at `position`, which gave this answer and left this vector file, at the
+/// front of `out`, and gives its length. The line ends in a newline; the bytes past it stay.
 ///
 /// Refused: [`Refusal::Length`], [`Refusal::File`], [`Refusal::Program`], [`Refusal::End`],
-/// [`Refusal::Out`] where `out` has under 546 bytes, [`Refusal::Unknown`] and [`Refusal::Undefined`]
-/// where `number` is 0 and the word is not accepted.
+/// [`Refusal::Out`] where `out` has under [`LONGEST_LINE`] bytes, [`Refusal::Unknown`] and
+/// [`Refusal::Undefined`] where the answer is done and the word is not accepted.
 #[inline]
 pub fn write_line(
     out: &mut [u8],
@@ -372,8 +420,11 @@ pub fn write_line(
     p: &[u8],
     program: &[u8],
     position: usize,
-    number: u8,
+    answer: Result<(), Refusal>,
 ) -> Result<usize, Refusal> {
+    // An answer that no byte holds is none of the engine's: the largest stands for it.
+    let number = answer.err().map_or(0, Refusal::number);
+    let number = u8::try_from(number).unwrap_or(u8::MAX);
     let answer = unsafe {
         boundary::ln_write_line(
             out.as_mut_ptr(),

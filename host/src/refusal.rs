@@ -2,8 +2,12 @@
 
 use std::fmt;
 
-/// Why a call did nothing. Refusals are tested in the order of their numbers.
+/// Why a call did nothing. Refusals are tested in the order of their numbers, except that
+/// [`Refusal::Out`] is tested before [`Refusal::Unknown`].
+///
+/// Later versions may have more, so a `match` needs an arm for the others.
 #[derive(Clone, Copy, Debug, PartialEq, Eq, Hash)]
+#[non_exhaustive]
 pub enum Refusal {
     /// 1: k is not 1 to 16.
     Length,
@@ -33,38 +37,48 @@ pub enum Refusal {
     Range,
     /// 14: not a session.
     Session,
-    /// A number that the engine never gives; it is here so that reading an answer cannot fail.
+    /// A number that this crate does not know; it is here so that reading an answer cannot fail.
     Unlisted(u64),
 }
 
 use Refusal::*;
 
 impl Refusal {
-    /// Every refusal that the engine gives, in the order of the numbers.
-    pub const ALL: [Refusal; 14] = [
+    /// Every refusal with a name, in the order of the numbers.
+    pub const ALL: &'static [Refusal] = &[
         Length, File, Program, Room, Journal, End, Unknown, Undefined, Full, Empty, Out, Text,
         Range, Session,
     ];
 
+    /// The number, the name and a sentence.
+    fn said(self) -> (u64, &'static str, &'static str) {
+        match self {
+            Length => (1, "LENGTH", "the length is not 1 to 16"),
+            File => (2, "FILE", "the vector or the predicate file has the wrong size"),
+            Program => (3, "PROGRAM", "the program is not whole words, or over 256 of them"),
+            Room => (4, "ROOM", "the journal has under 8 or over 65,536 bytes"),
+            Journal => (5, "JOURNAL", "the journal is not well formed"),
+            End => (6, "END", "the program has no word at this place"),
+            Unknown => (7, "UNKNOWN", "the word is unknown"),
+            Undefined => (8, "UNDEFINED", "the word is undefined"),
+            Full => (9, "FULL", "the journal is full"),
+            Empty => (10, "EMPTY", "the journal is empty"),
+            Out => (11, "OUT", "the output is too short"),
+            Text => (12, "TEXT", "no word has this text"),
+            Range => (13, "RANGE", "there is no such register, predicate, size or range of lanes"),
+            Session => (14, "SESSION", "this is not a session"),
+            Unlisted(number) => (number, "no answer number", "a refusal without a name"),
+        }
+    }
+
     /// The refusal's number.
     pub fn number(self) -> u64 {
-        match self {
-            Length => 1,
-            File => 2,
-            Program => 3,
-            Room => 4,
-            Journal => 5,
-            End => 6,
-            Unknown => 7,
-            Undefined => 8,
-            Full => 9,
-            Empty => 10,
-            Out => 11,
-            Text => 12,
-            Range => 13,
-            Session => 14,
-            Unlisted(number) => number,
-        }
+        self.said().0
+    }
+
+    /// The refusal's name, as `include/ln.h` has it: `"LENGTH"` and so on.
+    pub fn name(self) -> &'static str {
+        self.said().1
     }
 
     /// Done for 0, else the refusal with this number.
@@ -86,23 +100,8 @@ impl Refusal {
 
 impl fmt::Display for Refusal {
     fn fmt(&self, formatter: &mut fmt::Formatter<'_>) -> fmt::Result {
-        formatter.write_str(match self {
-            Length => "the length is not 1 to 16",
-            File => "the vector or the predicate file has the wrong size",
-            Program => "the program is not whole words, or over 256 of them",
-            Room => "the journal has under 8 or over 65,536 bytes",
-            Journal => "the journal is not well formed",
-            End => "the program has no word at this place",
-            Unknown => "the word is unknown",
-            Undefined => "the word is undefined",
-            Full => "the journal is full",
-            Empty => "the journal is empty",
-            Out => "the output is too short",
-            Text => "no word has this text",
-            Range => "there is no such register, predicate, size or range of lanes",
-            Session => "this is not a session",
-            Unlisted(number) => return write!(formatter, "refusal {}", number),
-        })
+        let (number, _, sentence) = self.said();
+        write!(formatter, "{} (refusal {})", sentence, number)
     }
 }
 

@@ -1,8 +1,9 @@
-//! The paper's marked cases M1 to M12 and its session, by the engine and by the reference.
+//! The paper's marked cases M1 to M12, by the engine and by the reference.
 
 use ghishmadul::Refusal;
 
 type Assemble = fn(&[u8]) -> Result<u32, Refusal>;
+type Text = fn(u32, &mut [u8]) -> Result<usize, Refusal>;
 type Step = fn(usize, &mut [u8], &[u8], &[u8], &mut [u8]) -> Result<(), Refusal>;
 
 /// One step of one word: Z0 and Z1 before it, P0, and Z0 after it. Each pattern fills its register.
@@ -192,37 +193,24 @@ fn run(side: &str, case: &Case, assemble: Assemble, step: Step) {
     assert!(z == after, "{} {}", side, case.name);
 }
 
-fn main() {
+#[test]
+fn m1_to_m11() {
     for case in &CASES {
-        run("engine", case, ghishmadul::assemble, ghishmadul::step);
+        run("engine", case, |text| ghishmadul::assemble(text), ghishmadul::step);
         run("reference", case, reference::assemble, reference::step);
     }
+}
 
-    // M12
+#[test]
+fn m12() {
     for word in [0x2EB0_3800, 0x4500_0000] {
         assert_eq!(ghishmadul::decode(word), Err(Refusal::Undefined));
         assert_eq!(reference::decode(word), Err(Refusal::Undefined));
     }
-    let calls: [fn(u32, &mut [u8]) -> Result<usize, Refusal>; 2] =
-        [ghishmadul::text, reference::text];
+    let calls: [Text; 2] = [ghishmadul::text, reference::text];
     for text in calls {
         let mut out = [0; 32];
         let length = text(0x6EB0_3800, &mut out).expect("an accepted word");
         assert_eq!(&out[..length], b"uaddlv d0, v0.4s");
     }
-
-    // The paper's session, by the reference; by the engine it is walked in C.
-    let mut session = b"LNW\x01\x00\x01\x04\x00".to_vec();
-    session.resize(8 + 544, 0);
-    for byte in 0..16 {
-        session[8 + 16 + byte] = byte as u8 + 1;
-    }
-    session[8 + 512..8 + 514].fill(0xFF);
-    for word in [0x0400_2020u32, 0x2E30_3822, 0x4541_0023, 0x04C0_2020] {
-        session.extend(word.to_le_bytes());
-    }
-    assert_eq!(reference::walk(&session), include_str!("walk.expected"));
-    session.push(0);
-    assert_eq!(reference::walk(&session), "14\n");
-    println!("marked cases: M1 to M12 and the paper's session");
 }

@@ -1,0 +1,275 @@
+//! A step as one would write it by hand for speed, in plain Rust: typed lanes, one loop for each word
+//! and width, eight bytes and their predicate byte at a time, no copy of a source, no branch on a lane.
+//!
+//! It answers and writes what the reference does; `tests/typed.rs` compares them.
+
+use ghishmadul::Refusal;
+
+/// A lane of some bytes, signed or not.
+trait Lane: Copy {
+    const BYTES: usize;
+    fn read(bytes: &[u8]) -> Self;
+    fn write(self, bytes: &mut [u8]);
+    /// Sign- or zero-extended.
+    fn extended(self) -> u64;
+    /// The sum modulo 2^width.
+    fn plus(self, other: Self) -> Self;
+    /// The lane itself if the lowest bit of `bits` is set, else 0.
+    fn if_set(self, bits: u8) -> Self;
+}
+
+macro_rules! lane {
+    ($($type:ty),*) => {$(
+        impl Lane for $type {
+            const BYTES: usize = std::mem::size_of::<$type>();
+
+            #[inline(always)]
+            fn read(bytes: &[u8]) -> Self {
+                <$type>::from_le_bytes(bytes.try_into().expect("the bytes of a lane"))
+            }
+
+            #[inline(always)]
+            fn write(self, bytes: &mut [u8]) {
+                bytes.copy_from_slice(&self.to_le_bytes());
+            }
+
+            #[inline(always)]
+            fn extended(self) -> u64 {
+                self as i64 as u64
+            }
+
+            #[inline(always)]
+            fn plus(self, other: Self) -> Self {
+                self.wrapping_add(other)
+            }
+
+            #[inline(always)]
+            fn if_set(self, bits: u8) -> Self {
+                self & ((bits & 1) as $type).wrapping_neg()
+            }
+        }
+    )*};
+}
+
+lane!(u8, u16, u32, u64, i8, i16, i32, i64);
+
+/// A lane with two lanes of half its width beneath it.
+trait Wide: Lane {
+    type Half: Lane;
+    fn from(half: Self::Half) -> Self;
+}
+
+macro_rules! wide {
+    ($($wide:ty, $half:ty;)*) => {$(
+        impl Wide for $wide {
+            type Half = $half;
+
+            #[inline(always)]
+            fn from(half: $half) -> Self {
+                half.into()
+            }
+        }
+    )*};
+}
+
+wide! { u16, u8; u32, u16; u64, u32; i16, i8; i32, i16; i64, i32; }
+
+/// saddv, uaddv.
+fn across<L: Lane>(destination: &mut [u8], source: &[u8], predicate: &[u8]) {
+    let mut sum = 0u64;
+    for (lanes, &bits) in source.chunks_exact(8).zip(predicate) {
+        for (e, lane) in lanes.chunks_exact(L::BYTES).enumerate() {
+            sum = sum.wrapping_add(L::read(lane).if_set(bits >> (e * L::BYTES)).extended());
+        }
+    }
+    destination[..8].copy_from_slice(&sum.to_le_bytes());
+    destination[8..].fill(0);
+}
+
+/// addqv.
+fn segments<L: Lane>(destination: &mut [u8], source: &[u8], predicate: &[u8]) {
+    let mut sums = [0; 16];
+    for (segment, bits) in source.chunks_exact(16).zip(predicate.chunks_exact(2)) {
+        let bits = [bits[0], bits[1]];
+        for (e, lane) in segment.chunks_exact(L::BYTES).enumerate() {
+            let at = e * L::BYTES;
+            let sum = &mut sums[at..at + L::BYTES];
+            L::read(sum).plus(L::read(lane).if_set(bits[at / 8] >> (at % 8))).write(sum);
+        }
+    }
+    destination[..16].copy_from_slice(&sums);
+    destination[16..].fill(0);
+}
+
+/// saddlv, uaddlv.
+fn long_across<L: Lane>(destination: &mut [u8], source: &[u8], q: bool) {
+    let low = if q { &source[..16] } else { &source[..8] };
+    let sum = low
+        .chunks_exact(L::BYTES)
+        .fold(0u64, |sum, lane| sum.wrapping_add(L::read(lane).extended()));
+    destination[..2 * L::BYTES].copy_from_slice(&sum.to_le_bytes()[..2 * L::BYTES]);
+    destination[2 * L::BYTES..].fill(0);
+}
+
+/// sadalp, uadalp.
+fn pairs<W: Wide>(destination: &mut [u8], source: &[u8], predicate: &[u8]) {
+    let (half, whole) = (W::Half::BYTES, W::BYTES);
+    let lanes = destination.chunks_exact_mut(8).zip(source.chunks_exact(8));
+    for ((lanes, sources), &bits) in lanes.zip(predicate) {
+        let both = lanes.chunks_exact_mut(whole).zip(sources.chunks_exact(whole));
+        for (e, (lane, pair)) in both.enumerate() {
+            let low = W::from(W::Half::read(&pair[..half]));
+            let high = W::from(W::Half::read(&pair[half..]));
+            W::read(lane).plus(low.plus(high).if_set(bits >> (e * whole))).write(lane);
+        }
+    }
+}
+
+/// saddlb, uaddlb, and with `top` saddlt, uaddlt.
+fn long<W: Wide>(destination: &mut [u8], first: &[u8], second: &[u8], top: bool) {
+    if top {
+        long_halves::<W, true>(destination, first, second)
+    } else {
+        long_halves::<W, false>(destination, first, second)
+    }
+}
+
+fn long_halves<W: Wide, const TOP: bool>(destination: &mut [u8], first: &[u8], second: &[u8]) {
+    let half = W::Half::BYTES;
+    let at = if TOP { half } else { 0 };
+    let sources = first.chunks_exact(W::BYTES).zip(second.chunks_exact(W::BYTES));
+    for (lane, (a, b)) in destination.chunks_exact_mut(W::BYTES).zip(sources) {
+        let a = W::from(W::Half::read(&a[at..at + half]));
+        let b = W::from(W::Half::read(&b[at..at + half]));
+        a.plus(b).write(lane);
+    }
+}
+
+/// What a word is of; a flag is its sign, or which halves it adds.
+#[derive(Clone, Copy)]
+enum Form {
+    Across { signed: bool },
+    Segments,
+    LongAcross { signed: bool },
+    Pairs { signed: bool },
+    Long { signed: bool, top: bool },
+}
+
+/// The word's form, and its size if that is allowed.
+#[inline]
+fn decode(word: u32) -> Result<(Form, u32), Refusal> {
+    let size = word >> 22 & 3;
+    let form = match word & 0xFF3F_E000 {
+        0x0400_2000 => Form::Across { signed: true },
+        0x0401_2000 => Form::Across { signed: false },
+        0x0405_2000 => Form::Segments,
+        0x4404_A000 => Form::Pairs { signed: true },
+        0x4405_A000 => Form::Pairs { signed: false },
+        _ => match word & 0xBF3F_FC00 {
+            0x0E30_3800 => Form::LongAcross { signed: true },
+            0x2E30_3800 => Form::LongAcross { signed: false },
+            _ if word & 0xFF20_F000 == 0x4500_0000 => {
+                Form::Long { signed: word & 0x800 == 0, top: word & 0x400 != 0 }
+            }
+            _ => return Err(Refusal::Unknown),
+        },
+    };
+    let allowed = match form {
+        Form::Across { signed } => !signed || size < 3,
+        Form::Segments => true,
+        Form::LongAcross { .. } => size < 2 || (size == 2 && word >> 30 & 1 == 1),
+        Form::Pairs { .. } | Form::Long { .. } => size > 0,
+    };
+    if allowed {
+        Ok((form, size))
+    } else {
+        Err(Refusal::Undefined)
+    }
+}
+
+/// One step, refused and done as the engine's.
+pub fn step(
+    k: usize,
+    z: &mut [u8],
+    p: &[u8],
+    program: &[u8],
+    journal: &mut [u8],
+) -> Result<(), Refusal> {
+    if !(1..=16).contains(&k) {
+        return Err(Refusal::Length);
+    }
+    let bytes = 16 * k;
+    if z.len() != 32 * bytes || p.len() != 2 * bytes {
+        return Err(Refusal::File);
+    }
+    if program.len() % 4 != 0 || program.len() > 1024 {
+        return Err(Refusal::Program);
+    }
+    if journal.len() < 8 || journal.len() > 65_536 {
+        return Err(Refusal::Room);
+    }
+    let (header, entries) = journal.split_at_mut(8);
+    let count = usize::from(u16::from_le_bytes([header[6], header[7]]));
+    let entry = 1 + bytes;
+    let well_formed = header[..6] == [b'L', b'N', b'J', 1, 0, k as u8]
+        && count <= 256
+        && count * entry <= entries.len()
+        && entries[..count * entry].chunks_exact(entry).all(|entry| entry[0] < 32);
+    if !well_formed {
+        return Err(Refusal::Journal);
+    }
+    let word = program.get(4 * count..4 * count + 4).ok_or(Refusal::End)?;
+    let word = u32::from_le_bytes(word.try_into().expect("four bytes"));
+    let (form, size) = decode(word)?;
+    let entry = entries.get_mut(count * entry..(count + 1) * entry).ok_or(Refusal::Full)?;
+
+    // The entry keeps the destination's old bytes: a source that is the destination is read there.
+    let field = |low: u32, most: u32| (word >> low & most) as usize;
+    let (d, n, m, g) = (field(0, 31), field(5, 31), field(16, 31), field(10, 7));
+    let (low, rest) = z.split_at_mut(d * bytes);
+    let (destination, high) = rest.split_at_mut(bytes);
+    let (number, old) = entry.split_first_mut().expect("an entry has a number");
+    *number = d as u8;
+    old.copy_from_slice(destination);
+    header[6..].copy_from_slice(&(count as u16 + 1).to_le_bytes());
+    let vector = |n: usize| match n.cmp(&d) {
+        std::cmp::Ordering::Less => &low[n * bytes..][..bytes],
+        std::cmp::Ordering::Equal => &*old,
+        std::cmp::Ordering::Greater => &high[(n - d - 1) * bytes..][..bytes],
+    };
+    let (source, predicate, q) = (vector(n), &p[2 * k * g..][..2 * k], word >> 30 & 1 == 1);
+
+    let to = destination;
+    match (form, size) {
+        (Form::Across { signed: true }, 0) => across::<i8>(to, source, predicate),
+        (Form::Across { signed: true }, 1) => across::<i16>(to, source, predicate),
+        (Form::Across { signed: true }, _) => across::<i32>(to, source, predicate),
+        (Form::Across { signed: false }, 0) => across::<u8>(to, source, predicate),
+        (Form::Across { signed: false }, 1) => across::<u16>(to, source, predicate),
+        (Form::Across { signed: false }, 2) => across::<u32>(to, source, predicate),
+        (Form::Across { signed: false }, _) => across::<u64>(to, source, predicate),
+        (Form::Segments, 0) => segments::<u8>(to, source, predicate),
+        (Form::Segments, 1) => segments::<u16>(to, source, predicate),
+        (Form::Segments, 2) => segments::<u32>(to, source, predicate),
+        (Form::Segments, _) => segments::<u64>(to, source, predicate),
+        (Form::LongAcross { signed: true }, 0) => long_across::<i8>(to, source, q),
+        (Form::LongAcross { signed: true }, 1) => long_across::<i16>(to, source, q),
+        (Form::LongAcross { signed: true }, _) => long_across::<i32>(to, source, q),
+        (Form::LongAcross { signed: false }, 0) => long_across::<u8>(to, source, q),
+        (Form::LongAcross { signed: false }, 1) => long_across::<u16>(to, source, q),
+        (Form::LongAcross { signed: false }, _) => long_across::<u32>(to, source, q),
+        (Form::Pairs { signed: true }, 1) => pairs::<i16>(to, source, predicate),
+        (Form::Pairs { signed: true }, 2) => pairs::<i32>(to, source, predicate),
+        (Form::Pairs { signed: true }, _) => pairs::<i64>(to, source, predicate),
+        (Form::Pairs { signed: false }, 1) => pairs::<u16>(to, source, predicate),
+        (Form::Pairs { signed: false }, 2) => pairs::<u32>(to, source, predicate),
+        (Form::Pairs { signed: false }, _) => pairs::<u64>(to, source, predicate),
+        (Form::Long { signed: true, top }, 1) => long::<i16>(to, source, vector(m), top),
+        (Form::Long { signed: true, top }, 2) => long::<i32>(to, source, vector(m), top),
+        (Form::Long { signed: true, top }, _) => long::<i64>(to, source, vector(m), top),
+        (Form::Long { signed: false, top }, 1) => long::<u16>(to, source, vector(m), top),
+        (Form::Long { signed: false, top }, 2) => long::<u32>(to, source, vector(m), top),
+        (Form::Long { signed: false, top }, _) => long::<u64>(to, source, vector(m), top),
+    }
+    Ok(())
+}

@@ -1,0 +1,213 @@
+//! Stands in for the engine's library: the same boundary over the reference, with a slip if one is
+//! named. It is there to try the comparison itself.
+
+mod slips;
+
+use ghishmadul::boundary::{Answer, Fields, Place, Session, Word};
+use ghishmadul::{Kind, Lanes, Refusal};
+use std::slice::{from_raw_parts, from_raw_parts_mut};
+
+unsafe fn lent<'a>(start: *const u8, bytes: usize) -> &'a [u8] {
+    if bytes == 0 {
+        &[]
+    } else {
+        from_raw_parts(start, bytes)
+    }
+}
+
+unsafe fn lent_mut<'a>(start: *mut u8, bytes: usize) -> &'a mut [u8] {
+    if bytes == 0 {
+        &mut []
+    } else {
+        from_raw_parts_mut(start, bytes)
+    }
+}
+
+fn number(answer: Result<(), Refusal>) -> u64 {
+    answer.err().map_or(0, Refusal::number)
+}
+
+fn answer(answer: Result<u64, Refusal>) -> Answer {
+    match answer {
+        Ok(value) => Answer { number: 0, value },
+        Err(refusal) => Answer { number: refusal.number(), value: 0 },
+    }
+}
+
+#[no_mangle]
+pub extern "C" fn ln_decode(word: u32) -> Fields {
+    match reference::decode(word) {
+        Ok(fields) => Fields {
+            number: 0,
+            row: fields.row as u64,
+            size: fields.size as u64,
+            n: fields.n as u64,
+            d: fields.d as u64,
+            g: fields.g as u64,
+            m: fields.m as u64,
+            q: fields.q as u64,
+        },
+        Err(refusal) => {
+            Fields { number: refusal.number(), row: 0, size: 0, n: 0, d: 0, g: 0, m: 0, q: 0 }
+        }
+    }
+}
+
+#[no_mangle]
+pub unsafe extern "C" fn ln_text(word: u32, out: *mut u8, out_len: usize) -> Answer {
+    answer(slips::text(word, lent_mut(out, out_len)).map(|length| length as u64))
+}
+
+#[no_mangle]
+pub unsafe extern "C" fn ln_assemble(text: *const u8, text_len: usize) -> Answer {
+    answer(slips::assemble(lent(text, text_len)).map(u64::from))
+}
+
+#[no_mangle]
+pub unsafe extern "C" fn ln_fresh(k: usize, journal: *mut u8, journal_len: usize) -> u64 {
+    number(reference::fresh(k, lent_mut(journal, journal_len)))
+}
+
+#[no_mangle]
+pub unsafe extern "C" fn ln_step(
+    k: usize,
+    z: *mut u8,
+    z_len: usize,
+    p: *const u8,
+    p_len: usize,
+    program: *const u8,
+    program_len: usize,
+    journal: *mut u8,
+    journal_len: usize,
+) -> u64 {
+    let (z, p) = (lent_mut(z, z_len), lent(p, p_len));
+    let (program, journal) = (lent(program, program_len), lent_mut(journal, journal_len));
+    number(slips::step(k, z, p, program, journal))
+}
+
+#[no_mangle]
+pub unsafe extern "C" fn ln_back(
+    k: usize,
+    z: *mut u8,
+    z_len: usize,
+    p: *const u8,
+    p_len: usize,
+    journal: *mut u8,
+    journal_len: usize,
+) -> u64 {
+    let (z, p, journal) = (lent_mut(z, z_len), lent(p, p_len), lent_mut(journal, journal_len));
+    number(slips::back(k, z, p, journal))
+}
+
+#[no_mangle]
+pub unsafe extern "C" fn ln_register_place(
+    k: usize,
+    z: *const u8,
+    z_len: usize,
+    p: *const u8,
+    p_len: usize,
+    predicate: u64,
+    register: usize,
+) -> Place {
+    let kind = if predicate == 0 { Kind::Vector } else { Kind::Predicate };
+    match reference::register_place(k, lent(z, z_len), lent(p, p_len), kind, register) {
+        Ok(place) => Place {
+            number: 0,
+            predicate: u64::from(place.kind == Kind::Predicate),
+            start: place.start as u64,
+            bytes: place.bytes as u64,
+        },
+        Err(refusal) => Place { number: refusal.number(), predicate: 0, start: 0, bytes: 0 },
+    }
+}
+
+#[no_mangle]
+pub unsafe extern "C" fn ln_panel(
+    k: usize,
+    z: *const u8,
+    z_len: usize,
+    p: *const u8,
+    p_len: usize,
+    source: usize,
+    governing: usize,
+    size: usize,
+    out: *mut u8,
+    out_len: usize,
+) -> u64 {
+    let (z, p, out) = (lent(z, z_len), lent(p, p_len), lent_mut(out, out_len));
+    number(reference::panel(k, z, p, Lanes { source, governing, size }, out))
+}
+
+#[no_mangle]
+pub unsafe extern "C" fn ln_subtotal(
+    k: usize,
+    z: *const u8,
+    z_len: usize,
+    p: *const u8,
+    p_len: usize,
+    source: usize,
+    governing: usize,
+    size: usize,
+    is_signed: u64,
+    a: usize,
+    b: usize,
+) -> Answer {
+    let (z, p, signed) = (lent(z, z_len), lent(p, p_len), is_signed != 0);
+    answer(slips::subtotal(k, z, p, Lanes { source, governing, size }, signed, a..b))
+}
+
+#[no_mangle]
+pub unsafe extern "C" fn ln_read_word(program: *const u8, program_len: usize, at: usize) -> Word {
+    match reference::read_word(lent(program, program_len), at) {
+        Ok(word) => Word { number: 0, word: u64::from(word.word), at: word.at as u64 },
+        Err(refusal) => Word { number: refusal.number(), word: 0, at: at as u64 },
+    }
+}
+
+#[no_mangle]
+pub unsafe extern "C" fn ln_read_session(bytes: *const u8, bytes_len: usize) -> Session {
+    match reference::read_session(lent(bytes, bytes_len)) {
+        Ok(session) => Session {
+            number: 0,
+            k: session.k as u64,
+            count: session.count as u64,
+            vectors: session.vectors as u64,
+            predicates: session.predicates as u64,
+            program: session.program as u64,
+        },
+        Err(refusal) => Session {
+            number: refusal.number(),
+            k: 0,
+            count: 0,
+            vectors: 0,
+            predicates: 0,
+            program: 0,
+        },
+    }
+}
+
+#[no_mangle]
+pub unsafe extern "C" fn ln_write_line(
+    out: *mut u8,
+    out_len: usize,
+    k: usize,
+    z: *const u8,
+    z_len: usize,
+    p: *const u8,
+    p_len: usize,
+    program: *const u8,
+    program_len: usize,
+    position: usize,
+    number: u8,
+) -> Answer {
+    let line = reference::write_line(
+        lent_mut(out, out_len),
+        k,
+        lent(z, z_len),
+        lent(p, p_len),
+        lent(program, program_len),
+        position,
+        Refusal::check(number.into()),
+    );
+    answer(line.map(|length| length as u64))
+}

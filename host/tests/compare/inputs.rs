@@ -1,0 +1,343 @@
+//! Inputs for the comparison: valid ones, damaged ones and noise.
+
+use crate::random::Random;
+
+/// Masks and values of the eleven rows.
+const ROWS: [(u32, u32); 11] = [
+    (0xFF3F_E000, 0x0400_2000),
+    (0xFF3F_E000, 0x0401_2000),
+    (0xFF3F_E000, 0x0405_2000),
+    (0xBF3F_FC00, 0x0E30_3800),
+    (0xBF3F_FC00, 0x2E30_3800),
+    (0xFF3F_E000, 0x4404_A000),
+    (0xFF3F_E000, 0x4405_A000),
+    (0xFF20_FC00, 0x4500_0000),
+    (0xFF20_FC00, 0x4500_0400),
+    (0xFF20_FC00, 0x4500_0800),
+    (0xFF20_FC00, 0x4500_0C00),
+];
+
+const LONG: usize = 10_000;
+const MOST_JOURNAL: usize = 65_536;
+
+/// A word: mostly of a row, whatever its size; sometimes with a bit turned; sometimes noise.
+pub fn word(random: &mut Random) -> u32 {
+    let (mask, value) = random.pick(&ROWS);
+    let word = value | random.word() & !mask;
+    match random.below(10) {
+        0 => random.word(),
+        1 => word ^ 1 << random.below(32),
+        _ => word,
+    }
+}
+
+/// Every word that a row matches, whatever its size.
+pub fn every_word_of_a_row() -> impl Iterator<Item = u32> {
+    ROWS.iter().flat_map(|&(mask, value)| {
+        // The numbers within the free bits, upwards: adding one to the mask's ones carries over them.
+        let mut free = Some(0u32);
+        std::iter::from_fn(move || {
+            let word = value | free?;
+            free = (free? | mask).checked_add(1).map(|next| next & !mask);
+            Some(word)
+        })
+    })
+}
+
+pub fn accepted_word(random: &mut Random) -> u32 {
+    loop {
+        let word = word(random);
+        if reference::decode(word).is_ok() {
+            return word;
+        }
+    }
+}
+
+/// A length: mostly a legal one.
+pub fn length(random: &mut Random) -> usize {
+    let legal = 1 + random.below(16);
+    match random.below(40) {
+        0 => 0,
+        1 => 17,
+        2 => random.pick(&[
+            18,
+            255,
+            256 + legal,
+            65_536 + legal,
+            1 << 55,
+            1 << 59,
+            1 << 63,
+            (1 << 32) + legal,
+            (1 << 63) + legal,
+            usize::MAX,
+        ]),
+        _ => legal,
+    }
+}
+
+/// Content of a part: noise, or bytes that are all alike, or alike but for some.
+pub fn content(random: &mut Random, part: &mut Vec<u8>, bytes: usize) {
+    part.clear();
+    part.resize(bytes, random.pick(&[0x00, 0x01, 0x7F, 0x80, 0xFF]));
+    match random.below(5) {
+        0 => {}
+        1 => {
+            for byte in part.iter_mut().step_by(7) {
+                *byte = random.byte();
+            }
+        }
+        _ => random.fill(part),
+    }
+}
+
+/// A part's length with a slip: a little or much too short or too long.
+fn slipped(random: &mut Random, bytes: usize, unit: usize) -> usize {
+    let slip = random.pick(&[1, 1, 2, 8, unit, unit]);
+    match random.below(3) {
+        0 => bytes.saturating_sub(slip),
+        1 => bytes + slip,
+        _ => random.pick(&[0, bytes / 2, bytes + 1]),
+    }
+}
+
+/// Both files for a length.
+pub fn files(random: &mut Random, k: usize, z: &mut Vec<u8>, p: &mut Vec<u8>) {
+    let like = if k <= 17 { k } else { 1 + k % 16 };
+    let mut vectors = 512 * like;
+    let mut predicates = 32 * like;
+    match random.below(40) {
+        0 => vectors = slipped(random, vectors, 512),
+        1 => predicates = slipped(random, predicates, 32),
+        2 => {
+            vectors += 512;
+            predicates += 32;
+        }
+        _ => {}
+    }
+    content(random, z, vectors);
+    content(random, p, predicates);
+}
+
+/// A program, mostly of whole words and mostly of rows.
+pub fn program(random: &mut Random, program: &mut Vec<u8>) {
+    let words = match random.below(12) {
+        0 => 0,
+        1 => 1,
+        2 => 256,
+        3 => 257,
+        4 => 255,
+        _ => random.below(257),
+    };
+    program.clear();
+    for _ in 0..words {
+        program.extend(word(random).to_le_bytes());
+    }
+    if random.one_in(20) {
+        let bytes = random.pick(&[1, 2, 3, 5, 1023, 1025, 1026, 1027, 1032, 4096]);
+        program.resize(bytes, 0);
+    } else if random.one_in(30) {
+        program.pop();
+    }
+}
+
+/// A journal with some entries, mostly well formed, mostly below the end of a program of so many words.
+pub fn journal(random: &mut Random, k: usize, words: usize, journal: &mut Vec<u8>) {
+    let like = if k <= 16 { k } else { 1 + k % 16 };
+    let entry = 1 + 16 * like;
+    let most = ((MOST_JOURNAL - 8) / entry).min(256);
+    let mut count = match random.below(8) {
+        0 => 0,
+        1 => most,
+        2 => words.min(most),
+        _ => random.below(words.max(1)).min(most),
+    };
+    if random.one_in(3) {
+        count = count.min(random.below(8));
+    }
+
+    // The room: often just what the entries take, or one more, or all that there is.
+    let taken = 8 + count * entry;
+    let bytes = match random.below(8) {
+        0 => taken,
+        1 => taken + random.below(entry),
+        2 => MOST_JOURNAL,
+        3 => taken + 3 * entry + random.below(entry),
+        _ => taken + entry,
+    };
+    journal.clear();
+    journal.resize(bytes.min(MOST_JOURNAL), 0);
+    if random.one_in(3) {
+        random.fill(&mut journal[taken..]);
+    }
+    random.fill(&mut journal[8..taken]);
+    for number in journal[8..taken].iter_mut().step_by(entry) {
+        *number &= 31;
+    }
+    journal[..5].copy_from_slice(b"LNJ\x01\x00");
+    journal[5] = like as u8;
+    journal[6..8].copy_from_slice(&(count as u16).to_le_bytes());
+
+    match random.below(24) {
+        0 => {
+            let place = random.below(8);
+            journal[place] ^= 1 << random.below(8);
+        }
+        1 => {
+            let place = random.below(8);
+            journal[place] = random.byte();
+        }
+        2 => {
+            let any = random.word() as u16;
+            let count = random.pick(&[256, 257, 65_535, count as u16 + 1, any]);
+            journal[6..8].copy_from_slice(&count.to_le_bytes());
+        }
+        3 | 4 if count > 0 => {
+            let (any, between) = (random.byte(), random.below(count));
+            let number = random.pick(&[32, 33, 255, any]);
+            let place = random.pick(&[0, count - 1, between]);
+            journal[8 + place * entry] = number;
+        }
+        5 => {
+            let bytes = random.pick(&[0, 1, 7, 8, 9, MOST_JOURNAL + 1, MOST_JOURNAL + 9]);
+            journal.resize(bytes, 0);
+        }
+        6 => {
+            let bytes = journal.len().saturating_sub(1 + random.below(entry));
+            journal.truncate(bytes);
+        }
+        _ => {}
+    }
+}
+
+/// A text: an accepted one, a damaged one, one put together from pieces, noise, or a long one.
+pub fn text(random: &mut Random, text: &mut Vec<u8>) {
+    text.clear();
+    let mut out = [0; 32];
+    let length = reference::text(accepted_word(random), &mut out).expect("an accepted word");
+    match random.below(16) {
+        0..=4 => text.extend(&out[..length]),
+        5..=9 => {
+            text.extend(&out[..length]);
+            for _ in 0..1 + random.below(2) {
+                damage(random, text);
+            }
+        }
+        10..=13 => pieces(random, text),
+        14 => {
+            text.resize(random.below(48), 0);
+            random.fill(text);
+        }
+        _ if random.one_in(20) => {
+            text.extend(&out[..length]);
+            let padding = random.pick(&[b' ', b'0', b'b', 0, 0xFF]);
+            if random.one_in(2) {
+                text.resize(LONG, padding);
+            } else {
+                let place = random.below(length);
+                let long = std::iter::repeat(padding).take(LONG - length);
+                text.splice(place..place, long);
+            }
+        }
+        _ => {
+            text.resize(random.below(16), b' ');
+            text.extend(&out[..length]);
+        }
+    }
+}
+
+fn damage(random: &mut Random, text: &mut Vec<u8>) {
+    let place = random.below(text.len().max(1));
+    if text.is_empty() {
+        return;
+    }
+    match random.below(8) {
+        0 => {
+            text.remove(place);
+        }
+        1 => text.insert(place, text[place]),
+        2 => text[place] ^= 1 << random.below(8),
+        3 => text[place] = random.pick(b"0123456789bhsdpvz.,/m "),
+        4 => text.insert(place, random.pick(b"0123456789bhsdpvz.,/m ")),
+        5 => text.truncate(place),
+        6 => text.push(random.pick(b" \n\0,b0")),
+        _ => text.swap(place, 0),
+    }
+}
+
+/// Names, registers and sizes put together as some form has them, fitting or not.
+fn pieces(random: &mut Random, text: &mut Vec<u8>) {
+    const NAMES: [&str; 14] = [
+        "saddv", "uaddv", "addqv", "saddlv", "uaddlv", "sadalp", "uadalp", "saddlb", "saddlt",
+        "uaddlb", "uaddlt", "addv", "saddl", "uaddqv",
+    ];
+    const LETTERS: [&str; 5] = ["b", "h", "s", "d", "q"];
+    const ARRANGEMENTS: [&str; 9] = ["8b", "16b", "4h", "8h", "2s", "4s", "1d", "2d", "32b"];
+    let numbers: Vec<String> = (0..4)
+        .map(|_| match random.below(12) {
+            0 => format!("0{}", random.below(10)),
+            1 => random.below(1000).to_string(),
+            2 => random.below(34).to_string(),
+            3 => random.pick(&["", "+1", "-1", " 1", "1 ", "256", "4294967297"]).to_string(),
+            4 | 5 => random.below(32).to_string(),
+            _ => random.below(8).to_string(),
+        })
+        .collect();
+    let name = random.pick(&NAMES);
+    let size = random.below(4);
+    let half = if random.one_in(4) { random.below(5) } else { size.max(1) - 1 };
+    let other = if random.one_in(4) { random.below(5) } else { half };
+    let (wide, narrow, second) = (LETTERS[size], LETTERS[half], LETTERS[other]);
+    let arrangement = random.pick(&ARRANGEMENTS);
+    let [a, b, c] = [&numbers[0], &numbers[1], &numbers[2]];
+    let made = match random.below(5) {
+        0 => format!("{} d{}, p{}, z{}.{}", name, a, b, c, wide),
+        1 => format!("{} v{}.{}, p{}, z{}.{}", name, a, arrangement, b, c, wide),
+        2 => format!("{} {}{}, v{}.{}", name, wide, a, b, arrangement),
+        3 => format!("{} z{}.{}, p{}/m, z{}.{}", name, a, wide, b, c, narrow),
+        _ => format!("{} z{}.{}, z{}.{}, z{}.{}", name, a, wide, b, narrow, c, second),
+    };
+    text.extend(made.as_bytes());
+}
+
+/// A session, valid or with one thing wrong.
+pub fn session(random: &mut Random, session: &mut Vec<u8>) {
+    let k = 1 + random.below(16);
+    let any = random.below(257);
+    let words = random.pick(&[0, 1, 2, 255, 256, any]);
+    session.clear();
+    session.resize(8 + 544 * k + 4 * words, 0);
+    random.fill(session);
+    session[..5].copy_from_slice(b"LNW\x01\x00");
+    session[5] = k as u8;
+    session[6..8].copy_from_slice(&(words as u16).to_le_bytes());
+    match random.below(16) {
+        0 => session.push(0),
+        1 => {
+            session.pop();
+        }
+        2 => {
+            let place = random.below(8);
+            session[place] ^= 1 << random.below(8);
+        }
+        3 => {
+            let place = random.below(8);
+            session[place] = random.byte();
+        }
+        4 => session[5] = random.pick(&[0, 17, 255]),
+        5 => {
+            // A count that is wrong, in a session of just its length.
+            let words: u16 = random.pick(&[257, 258, 512]);
+            session[6..8].copy_from_slice(&words.to_le_bytes());
+            session.resize(8 + 544 * k + 4 * words as usize, 0);
+        }
+        6 => session.truncate(random.below(10)),
+        7 => {
+            // A length that is wrong, in a session of just its length.
+            let k = random.pick(&[0, 17]);
+            session[5] = k as u8;
+            session.resize(8 + 544 * k + 4 * words, 0);
+        }
+        8 => session.resize(random.pick(&[0, 1, 7, 8, 551, 552, LONG]), 0),
+        _ => {}
+    }
+}

@@ -1,0 +1,509 @@
+//! Compares the engine with the reference, call by call: the answer and every lent byte.
+//!
+//! What is lent ends right at a page that cannot be read; in a second pass it begins right after one.
+//! The variable LN_INPUTS is the number of inputs (a million), LN_SEED the seed.
+
+mod engine;
+mod guarded;
+mod inputs;
+mod random;
+mod tally;
+
+use engine::{numbers, Numbers, Way};
+use ghishmadul::{Kind, Lanes, Refusal};
+use guarded::{Guard, Guarded};
+use random::Random;
+use std::io::Write;
+use tally::{Call, Tally};
+
+/// More than any length of a part.
+const MOST: usize = 70_000;
+
+/// So many inputs reach every answer of every call; fewer may miss some.
+const ENOUGH: u64 = 100_000;
+
+/// What the calls are lent. The reference works on the bytes here, the engine on its guarded parts.
+#[derive(Default)]
+struct Parts {
+    z: Vec<u8>,
+    p: Vec<u8>,
+    program: Vec<u8>,
+    journal: Vec<u8>,
+    out: Vec<u8>,
+}
+
+struct GuardedParts {
+    z: Guarded,
+    p: Guarded,
+    program: Guarded,
+    journal: Guarded,
+    out: Guarded,
+}
+
+struct Comparison<'a> {
+    random: Random,
+    guard: Guard,
+    parts: Parts,
+    engine: GuardedParts,
+    tally: &'a mut Tally,
+}
+
+impl<'a> Comparison<'a> {
+    fn new(seed: u64, guard: Guard, tally: &'a mut Tally) -> Comparison<'a> {
+        let guarded = || Guarded::new(MOST, guard);
+        Comparison {
+            random: Random::new(seed),
+            guard,
+            parts: Parts::default(),
+            engine: GuardedParts {
+                z: guarded(),
+                p: guarded(),
+                program: guarded(),
+                journal: guarded(),
+                out: guarded(),
+            },
+            tally,
+        }
+    }
+
+    fn way(&mut self) -> Way {
+        match self.random.below(4) {
+            0 | 1 => Way::Safe,
+            2 => Way::Boundary,
+            _ => Way::Nowhere(self.random.pick(&[0, 1, 4096, usize::MAX, 1 << 63])),
+        }
+    }
+
+    /// Fails if the answers differ.
+    fn same(&mut self, call: Call, engine: Numbers, reference: Numbers, given: &[usize]) {
+        if engine != reference {
+            let what = format!("engine {:?}, reference {:?}, given {:?}", engine, reference, given);
+            self.stop(call, &what);
+        }
+        self.tally.count(call, reference[0]);
+    }
+
+    /// Fails if a lent part of the engine has not the reference's bytes.
+    fn agree(&mut self, call: Call, names: &[&'static str]) {
+        for &name in names {
+            let GuardedParts { z, p, program, journal, out } = &mut self.engine;
+            let same = match name {
+                "z" => z.holds(&self.parts.z),
+                "p" => p.holds(&self.parts.p),
+                "program" => program.holds(&self.parts.program),
+                "journal" => journal.holds(&self.parts.journal),
+                _ => out.holds(&self.parts.out),
+            };
+            if !same {
+                self.stop(call, &format!("the bytes of {} differ", name));
+            }
+        }
+    }
+
+    /// Fails.
+    fn stop(&self, call: Call, what: &str) -> ! {
+        let Parts { z, p, program, journal, out } = &self.parts;
+        panic!(
+            "{:?}, input {}, guard {:?}: {}\n\
+             bytes: z {}, p {}, program {}, journal {}\nheader {:02x?}\nout {:?}",
+            call,
+            self.tally.total(),
+            self.guard,
+            what,
+            z.len(),
+            p.len(),
+            program.len(),
+            journal.len(),
+            &journal[..journal.len().min(8)],
+            String::from_utf8_lossy(&out[..out.len().min(300)]),
+        )
+    }
+
+    fn decode(&mut self) {
+        let way = self.way();
+        let word = inputs::word(&mut self.random);
+        let reference = numbers(reference::decode(word));
+        self.same(Call::Decode, way.decode(word), reference, &[word as usize]);
+    }
+
+    fn text(&mut self) {
+        let way = self.way();
+        let word = inputs::word(&mut self.random);
+        let bytes = match self.random.below(12) {
+            0 => self.random.below(32),
+            1 => 31,
+            2 => 32 + self.random.below(100),
+            3 if self.random.one_in(20) => 10_000,
+            _ => 32,
+        };
+        inputs::content(&mut self.random, &mut self.parts.out, bytes);
+        self.engine.out.set(&self.parts.out);
+        let engine = way.text(word, self.engine.out.part());
+        let reference = numbers(reference::text(word, &mut self.parts.out));
+        self.same(Call::Text, engine, reference, &[word as usize]);
+        self.agree(Call::Text, &["out"]);
+    }
+
+    fn assemble(&mut self) {
+        let way = self.way();
+        inputs::text(&mut self.random, &mut self.parts.out);
+        self.engine.out.set(&self.parts.out);
+        let engine = way.assemble(self.engine.out.part());
+        let reference = numbers(reference::assemble(&self.parts.out));
+        self.same(Call::Assemble, engine, reference, &[]);
+        self.agree(Call::Assemble, &["out"]);
+    }
+
+    /// Every word that a row matches: its fields, its text, and the text read back.
+    fn every_word(&mut self) {
+        let mut counts = [0; 15];
+        for word in inputs::every_word_of_a_row() {
+            let way = self.way();
+            let fields = numbers(reference::decode(word));
+            self.same(Call::Decode, way.decode(word), fields, &[word as usize]);
+            counts[fields[0] as usize] += 1;
+
+            self.parts.out.clear();
+            self.parts.out.resize(32, 0xEE);
+            self.engine.out.set(&self.parts.out);
+            let engine = way.text(word, self.engine.out.part());
+            let reference = numbers(reference::text(word, &mut self.parts.out));
+            self.same(Call::Text, engine, reference, &[word as usize]);
+            self.agree(Call::Text, &["out"]);
+
+            if reference[0] == 0 {
+                self.parts.out.truncate(reference[1] as usize);
+                self.engine.out.set(&self.parts.out);
+                let engine = way.assemble(self.engine.out.part());
+                self.same(Call::Assemble, engine, numbers(Ok(word)), &[word as usize]);
+                let reference = numbers(reference::assemble(&self.parts.out));
+                self.same(Call::Assemble, engine, reference, &[word as usize]);
+            }
+        }
+        say(&format!("words of a row: {} accepted, {} undefined", counts[0], counts[8]));
+        assert_eq!((counts[0], counts[8]), (542_720, 161_792), "the paper's counts");
+    }
+
+    fn fresh(&mut self) {
+        let way = self.way();
+        let k = inputs::length(&mut self.random);
+        let bytes = match self.random.below(12) {
+            0 => self.random.below(9),
+            1 => 65_530 + self.random.below(20),
+            2 => self.random.below(65_540),
+            _ => 8 + self.random.below(1000),
+        };
+        inputs::content(&mut self.random, &mut self.parts.journal, bytes);
+        self.engine.journal.set(&self.parts.journal);
+        let engine = way.fresh(k, self.engine.journal.part());
+        let reference = numbers(reference::fresh(k, &mut self.parts.journal));
+        self.same(Call::Fresh, engine, reference, &[k]);
+        self.agree(Call::Fresh, &["journal"]);
+    }
+
+    /// Sets up everything that a step is lent.
+    fn state(&mut self) -> usize {
+        let Comparison { random, parts, .. } = self;
+        let k = inputs::length(random);
+        inputs::files(random, k, &mut parts.z, &mut parts.p);
+        inputs::program(random, &mut parts.program);
+        let words = parts.program.len() / 4;
+        inputs::journal(random, k, words, &mut parts.journal);
+        self.engine.z.set(&self.parts.z);
+        self.engine.p.set(&self.parts.p);
+        self.engine.program.set(&self.parts.program);
+        self.engine.journal.set(&self.parts.journal);
+        k
+    }
+
+    fn move_forward(&mut self, way: Way, k: usize) -> u64 {
+        let engine = way.step(
+            k,
+            self.engine.z.part(),
+            self.engine.p.part(),
+            self.engine.program.part(),
+            self.engine.journal.part(),
+        );
+        let Parts { z, p, program, journal, .. } = &mut self.parts;
+        let reference = numbers(reference::step(k, z, p, program, journal));
+        self.same(Call::Step, engine, reference, &[k]);
+        self.agree(Call::Step, &["z", "p", "program", "journal"]);
+        reference[0]
+    }
+
+    fn move_back(&mut self, way: Way, k: usize) -> u64 {
+        let engine =
+            way.back(k, self.engine.z.part(), self.engine.p.part(), self.engine.journal.part());
+        let Parts { z, p, journal, .. } = &mut self.parts;
+        let reference = numbers(reference::back(k, z, p, journal));
+        self.same(Call::Back, engine, reference, &[k]);
+        self.agree(Call::Back, &["z", "p", "journal"]);
+        reference[0]
+    }
+
+    fn step(&mut self) {
+        let way = self.way();
+        let k = self.state();
+        self.move_forward(way, k);
+    }
+
+    fn back(&mut self) {
+        let way = self.way();
+        let k = self.state();
+        self.move_back(way, k);
+    }
+
+    /// Moves forward and back from a fresh journal; a back brings the former bytes again.
+    fn moves(&mut self) {
+        let k = 1 + self.random.below(16);
+        let entry = 1 + 16 * k;
+        let Comparison { random, parts, .. } = self;
+        inputs::content(random, &mut parts.z, 512 * k);
+        inputs::content(random, &mut parts.p, 32 * k);
+        parts.program.clear();
+        let words = random.pick(&[0, 1, 5, 40, 100, 256, 256]);
+        for _ in 0..words {
+            let word = if random.one_in(200) {
+                inputs::word(random)
+            } else {
+                inputs::accepted_word(random)
+            };
+            parts.program.extend(word.to_le_bytes());
+        }
+        let bytes = match random.below(4) {
+            0 => 65_536,
+            1 => 8 + random.below(4 * entry),
+            _ => (8 + random.below(60) * entry + random.below(entry)).min(65_536),
+        };
+        parts.journal.clear();
+        parts.journal.resize(bytes, 0xEE);
+        self.engine.z.set(&self.parts.z);
+        self.engine.p.set(&self.parts.p);
+        self.engine.program.set(&self.parts.program);
+        self.engine.journal.set(&self.parts.journal);
+        let way = self.way();
+        let engine = way.fresh(k, self.engine.journal.part());
+        let reference = numbers(reference::fresh(k, &mut self.parts.journal));
+        self.same(Call::Fresh, engine, reference, &[k]);
+        self.agree(Call::Fresh, &["journal"]);
+
+        // What stood before each accepted step that has not been taken back.
+        let mut former: Vec<(Vec<u8>, Vec<u8>)> = Vec::new();
+        let moves = (words + 4).min(self.random.pick(&[30, 60, 300]));
+        let backward = self.random.pick(&[2, 3, 3, 20]);
+        for _ in 0..moves {
+            let way = self.way();
+            if self.random.one_in(backward) {
+                if self.move_back(way, k) == 0 {
+                    let (z, journal) = former.pop().expect("a back undoes a step");
+                    if z != self.parts.z || journal != self.parts.journal {
+                        self.stop(Call::Back, "the former bytes did not come again");
+                    }
+                }
+            } else {
+                let before = (self.parts.z.clone(), self.parts.journal.clone());
+                if self.move_forward(way, k) == 0 {
+                    former.push(before);
+                }
+            }
+        }
+    }
+
+    fn some_files(&mut self) -> usize {
+        let k = inputs::length(&mut self.random);
+        inputs::files(&mut self.random, k, &mut self.parts.z, &mut self.parts.p);
+        self.engine.z.set(&self.parts.z);
+        self.engine.p.set(&self.parts.p);
+        k
+    }
+
+    /// Mostly below the bound, sometimes at it or far above.
+    fn mostly_below(&mut self, bound: usize) -> usize {
+        match self.random.below(40) {
+            0 => bound,
+            1 => self.random.pick(&[bound + 1, 255, 256, 1 << 32, 1 << 61, usize::MAX]),
+            _ => self.random.below(bound),
+        }
+    }
+
+    fn register_place(&mut self) {
+        let way = self.way();
+        let k = self.some_files();
+        let predicate = self.random.pick(&[0, 0, 0, 1, 1, 2, 256, 1 << 32, u64::MAX]);
+        let register = self.mostly_below(if predicate == 0 { 32 } else { 16 });
+        let engine =
+            way.register_place(k, self.engine.z.part(), self.engine.p.part(), predicate, register);
+        let Parts { z, p, .. } = &self.parts;
+        let kind = if predicate == 0 { Kind::Vector } else { Kind::Predicate };
+        let reference = numbers(reference::register_place(k, z, p, kind, register));
+        self.same(Call::RegisterPlace, engine, reference, &[k, predicate as usize, register]);
+        self.agree(Call::RegisterPlace, &["z", "p"]);
+    }
+
+    fn lanes(&mut self) -> Lanes {
+        let source = self.mostly_below(32);
+        let governing = self.mostly_below(8);
+        let size = self.mostly_below(4);
+        Lanes { source, governing, size }
+    }
+
+    fn panel(&mut self) {
+        let way = self.way();
+        let k = self.some_files();
+        let lanes = self.lanes();
+        let bytes = match self.random.below(20) {
+            0 => self.random.below(256),
+            1 => 255,
+            2 => 256 + self.random.below(300),
+            _ => 256,
+        };
+        inputs::content(&mut self.random, &mut self.parts.out, bytes);
+        self.engine.out.set(&self.parts.out);
+        let engine =
+            way.panel(k, self.engine.z.part(), self.engine.p.part(), lanes, self.engine.out.part());
+        let Parts { z, p, out, .. } = &mut self.parts;
+        let reference = numbers(reference::panel(k, z, p, lanes, out));
+        let given = [k, lanes.source, lanes.governing, lanes.size];
+        self.same(Call::Panel, engine, reference, &given);
+        self.agree(Call::Panel, &["z", "p", "out"]);
+    }
+
+    fn subtotal(&mut self) {
+        let way = self.way();
+        let k = self.some_files();
+        let lanes = self.lanes();
+        let is_signed = self.random.pick(&[0, 0, 0, 1, 1, 2, 256, 1 << 32, u64::MAX]);
+        let many = if k <= 17 { (16 * k) >> lanes.size.min(3) } else { 16 };
+        let mut a = self.mostly_below(many + 1);
+        let mut b = self.mostly_below(many + 1);
+        if a > b && !self.random.one_in(20) {
+            std::mem::swap(&mut a, &mut b);
+        }
+        if self.random.one_in(8) {
+            (a, b) = self.random.pick(&[(0, many), (a, a), (b, b)]);
+        }
+        let engine =
+            way.subtotal(k, self.engine.z.part(), self.engine.p.part(), lanes, is_signed, a..b);
+        let Parts { z, p, .. } = &self.parts;
+        let reference = numbers(reference::subtotal(k, z, p, lanes, is_signed != 0, a..b));
+        let given = [k, lanes.source, lanes.governing, lanes.size, is_signed as usize, a, b];
+        self.same(Call::Subtotal, engine, reference, &given);
+        self.agree(Call::Subtotal, &["z", "p"]);
+    }
+
+    fn read_word(&mut self) {
+        let way = self.way();
+        inputs::program(&mut self.random, &mut self.parts.program);
+        self.engine.program.set(&self.parts.program);
+        let words = self.parts.program.len() / 4;
+        let at = self.mostly_below(words + 1);
+        let engine = way.read_word(self.engine.program.part(), at);
+        let mut reference = numbers(reference::read_word(&self.parts.program, at));
+        if reference[0] != 0 && way != Way::Safe {
+            reference[2] = at as u64;
+        }
+        self.same(Call::ReadWord, engine, reference, &[at]);
+        self.agree(Call::ReadWord, &["program"]);
+    }
+
+    fn read_session(&mut self) {
+        let way = self.way();
+        inputs::session(&mut self.random, &mut self.parts.out);
+        self.engine.out.set(&self.parts.out);
+        let engine = way.read_session(self.engine.out.part());
+        let reference = numbers(reference::read_session(&self.parts.out));
+        self.same(Call::ReadSession, engine, reference, &[]);
+        self.agree(Call::ReadSession, &["out"]);
+    }
+
+    fn write_line(&mut self) {
+        let way = self.way();
+        let k = self.some_files();
+        inputs::program(&mut self.random, &mut self.parts.program);
+        self.engine.program.set(&self.parts.program);
+        let words = self.parts.program.len() / 4;
+        let position = self.mostly_below(words + 1);
+        let number = self.random.pick(&[0, 0, 0, 1, 6, 7, 8, 9, 14, 99, 100, 255]);
+        let bytes = match self.random.below(12) {
+            0 => self.random.below(546),
+            1 => 545,
+            2 => 546 + self.random.below(100),
+            _ => 546,
+        };
+        inputs::content(&mut self.random, &mut self.parts.out, bytes);
+        self.engine.out.set(&self.parts.out);
+        let engine = way.write_line(
+            self.engine.out.part(),
+            k,
+            self.engine.z.part(),
+            self.engine.p.part(),
+            self.engine.program.part(),
+            position,
+            number,
+        );
+        let Parts { z, p, program, out, .. } = &mut self.parts;
+        let answer = Refusal::check(number.into());
+        let reference = numbers(reference::write_line(out, k, z, p, program, position, answer));
+        self.same(Call::WriteLine, engine, reference, &[k, position, number as usize]);
+        self.agree(Call::WriteLine, &["z", "p", "program", "out"]);
+    }
+
+    /// So many inputs, at least.
+    fn run(&mut self, inputs: u64) {
+        let until = self.tally.total() + inputs;
+        while self.tally.total() < until {
+            match self.random.below(100) {
+                0..=15 => self.decode(),
+                16..=29 => self.text(),
+                30..=53 => self.assemble(),
+                54..=55 => self.fresh(),
+                56..=66 => self.step(),
+                67..=72 => self.back(),
+                73..=77 => self.register_place(),
+                78..=83 => self.panel(),
+                84..=91 => self.subtotal(),
+                92..=94 => self.read_word(),
+                95..=96 => self.read_session(),
+                97..=98 => self.write_line(),
+                _ => self.moves(),
+            }
+        }
+    }
+}
+
+/// Prints a line even where the test passes.
+fn say(line: &str) {
+    writeln!(std::io::stdout(), "{}", line).expect("a line can be printed");
+}
+
+/// The number that a variable has.
+fn variable(name: &str, otherwise: u64) -> u64 {
+    match std::env::var(name) {
+        Ok(value) => value.parse().unwrap_or_else(|_| panic!("{} is no number: {}", name, value)),
+        Err(_) => otherwise,
+    }
+}
+
+#[test]
+fn every_word_of_a_row_agrees() {
+    let seed = variable("LN_SEED", 1);
+    Comparison::new(seed, Guard::After, &mut Tally::default()).every_word();
+}
+
+#[test]
+fn inputs_of_every_call_agree() {
+    let inputs = variable("LN_INPUTS", 1_000_000);
+    let seed = variable("LN_SEED", 1);
+    let mut tally = Tally::default();
+    for (pass, guard) in [(0, Guard::After), (1, Guard::Before)] {
+        let seed = seed.wrapping_mul(2).wrapping_add(pass);
+        Comparison::new(seed, guard, &mut tally).run(inputs / 2 + inputs % 2);
+    }
+    let missing = tally.missing().join(", ");
+    say(&format!("\n{}", tally.table()));
+    say(&format!("{} inputs compared, 0 differ, seed {}", tally.total(), seed));
+    if !missing.is_empty() {
+        say(&format!("not reached by these inputs: {}", missing));
+        assert!(inputs < ENOUGH, "so many inputs reach every answer");
+    }
+}

@@ -1,0 +1,20 @@
+//! The examples, run.
+
+macro_rules! example {
+    ($name:ident, $file:literal) => {
+        mod $name {
+            include!($file);
+
+            #[test]
+            fn runs() {
+                main().expect("nothing is refused");
+            }
+        }
+    };
+}
+
+example!(machine, "../examples/machine.rs");
+example!(moves, "../examples/moves.rs");
+example!(pane, "../examples/pane.rs");
+example!(session, "../examples/session.rs");
+example!(words, "../examples/words.rs");

@@ -1,0 +1,30 @@
+//! The crate's numbers and names are the header's: `header.c` prints the same lines.
+
+use ghishmadul::*;
+
+#[test]
+fn the_header_has_the_same_numbers() {
+    let sizes = [
+        ("LEAST_K", LEAST_K),
+        ("MOST_K", MOST_K),
+        ("VECTOR_REGISTERS", VECTOR_REGISTERS),
+        ("PREDICATE_REGISTERS", PREDICATE_REGISTERS),
+        ("MOST_WORDS", MOST_WORDS),
+        ("JOURNAL_HEADER_BYTES", JOURNAL_HEADER_BYTES),
+        ("MOST_JOURNAL_BYTES", MOST_JOURNAL_BYTES),
+        ("LEAST_TEXT_OUT", LEAST_TEXT_OUT),
+        ("LONGEST_LINE", LONGEST_LINE),
+        ("PANEL_BYTES", PANEL_BYTES),
+        ("VECTOR_BYTES(3)", vector_bytes(3)),
+        ("PREDICATE_BYTES(3)", predicate_bytes(3)),
+        ("VECTOR_FILE_BYTES(3)", vector_file_bytes(3)),
+        ("PREDICATE_FILE_BYTES(3)", predicate_file_bytes(3)),
+        ("JOURNAL_BYTES(3, 5)", journal_bytes(3, 5)),
+    ];
+    let sizes = sizes.iter().map(|(name, value)| format!("{} {}\n", name, value));
+    let after_the_last = Refusal::ALL.len() as u64 + 1;
+    let refusals = Refusal::ALL.iter().copied().chain([Refusal::Unlisted(after_the_last)]);
+    let names = refusals.map(|refusal| format!("{} {}\n", refusal.name(), refusal.number()));
+    let lines: String = sizes.chain(names).collect();
+    assert_eq!(lines, include_str!("header.expected"));
+}

@@ -1,0 +1,50 @@
+//! What the benchmark sets beside the engine, compared with the reference: the step written for speed,
+//! and the subtotal by a split.
+
+#[path = "compare/inputs.rs"]
+#[allow(dead_code)]
+mod inputs;
+#[path = "compare/random.rs"]
+#[allow(dead_code)]
+mod random;
+#[path = "../benches/bench/split.rs"]
+mod split;
+#[path = "../benches/bench/typed.rs"]
+mod typed;
+
+use ghishmadul::Lanes;
+use random::Random;
+
+#[test]
+fn the_step_for_speed_agrees() {
+    let mut random = Random::new(1);
+    let (mut z, mut p, mut program, mut journal) = (vec![], vec![], vec![], vec![]);
+    for _ in 0..100_000 {
+        let k = inputs::length(&mut random);
+        inputs::files(&mut random, k, &mut z, &mut p);
+        inputs::program(&mut random, &mut program);
+        inputs::journal(&mut random, k, program.len() / 4, &mut journal);
+        let (mut other_z, mut other_journal) = (z.clone(), journal.clone());
+        let answer = typed::step(k, &mut z, &p, &program, &mut journal);
+        let other = reference::step(k, &mut other_z, &p, &program, &mut other_journal);
+        assert_eq!(answer, other);
+        assert!(z == other_z && journal == other_journal, "k {}, {:02x?}", k, &journal[..8]);
+    }
+}
+
+#[test]
+fn the_subtotal_by_a_split_agrees() {
+    let mut random = Random::new(2);
+    let (mut z, mut p) = (vec![], vec![]);
+    for _ in 0..20_000 {
+        let k = inputs::length(&mut random);
+        inputs::files(&mut random, k, &mut z, &mut p);
+        let (source, governing, size) = (random.below(33), random.below(9), random.below(5));
+        let lanes = Lanes { source, governing, size };
+        let range = random.below(40)..random.below(280);
+        for signed in [false, true] {
+            let answer = split::subtotal(k, &z, &p, lanes, signed, range.clone());
+            assert_eq!(answer, reference::subtotal(k, &z, &p, lanes, signed, range.clone()));
+        }
+    }
+}
