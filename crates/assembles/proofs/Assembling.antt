@@ -16,6 +16,8 @@ use Rattle.words.specs.Encode.{encoded, InRange}
 use Rattle.words.specs.declared.Fields.{Fields}
 use Rattle.words.specs.declared.Decoded.{Decoded}
 use Rattle.words.specs.declared.Decoded.the-variants.{Unknown, Undefined, Word}
+use Rattle.words.specs.Table.{familyOf}
+use Rattle.words.proofs.Decoding.{governing-below, second-below, q-below}
 use Rattle.words.proofs.Encoding.{decoded-in-range, encoded-decoded}
 use Rattle.names.specs.Text.{textOf}
 use Rattle.names.specs.Named.{leastOut, textOfDecoded, textOfWord, Named}
@@ -36,14 +38,15 @@ accepted-word word e = go (decoded word) refl e
 -- fields in range have no more digits than their places
 in-place : (f : Fields) → InRange f → limited f ≡ f
 in-place f r =
+    let family = familyOf (f .row) in
     λ t. record {
       row = f .row;
       size = mod-eq-of-lt (r .size) t;
       n = mod-eq-of-lt (r .n) t;
       d = mod-eq-of-lt (r .d) t;
-      g = mod-eq-of-lt (r .g) t;
-      m = mod-eq-of-lt (r .m) t;
-      q = mod-eq-of-lt (r .q) t;
+      g = mod-eq-of-lt (governing-below family (r .g)) t;
+      m = mod-eq-of-lt (second-below family (r .m)) t;
+      q = mod-eq-of-lt (q-below family (r .q)) t;
     }
 
 -- the word that is read in a text of an accepted word is that word

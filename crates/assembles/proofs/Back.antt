@@ -9,38 +9,44 @@ use lib.Dec.{eqb, leb}
 use lib.ListN.{length, length-append}
 use lib.Seq.{take-append-le}
 use borrow.Author.Tests.{eqb-true, leb-true}
-use Rattle.machine.specs.Size.{both}
-use Rattle.machine.proofs.Checks.{both-left, both-right}
-use Rattle.words.specs.Table.{rows, formOf, leastSize, mostSize}
-use Rattle.words.specs.Decode.{hasSecond, hasQ}
+use Rattle.parts.specs.Part.{both}
+use Rattle.parts.proofs.Same.{both-left, both-right}
+use Rattle.machine.specs.Size.{sizes}
+use Rattle.words.specs.Text.{bytes}
+use Rattle.words.specs.Table.{nameBytes, rows, rowAt, familyOf, allowsFamily}
+use Rattle.words.specs.Field.{registerDigits, governingDigits, secondDigits, qDigits}
 use Rattle.words.specs.Encode.{InRange}
-use Rattle.words.specs.declared.Form.{Form}
-use Rattle.words.specs.declared.Form.the-variants.{Reduction, Segment, Long, Pairwise, Widening}
+use Rattle.words.specs.declared.Family.{Family}
+use Rattle.words.specs.declared.Family.the-variants.{Low, Wide}
+use Rattle.words.specs.declared.LowFamily.the-variants.{Reduction, Segment, Long}
+use Rattle.words.specs.declared.WideFamily.the-variants.{Pairwise, Widening}
 use Rattle.words.specs.declared.Fields.{Fields}
 use Rattle.words.proofs.Every.{every, at-each}
 use Rattle.names.specs.declared.Suffix.{Suffix}
 use Rattle.names.specs.declared.Suffix.the-variants.{Lane}
 use Rattle.names.specs.declared.Operand.{Operand}
-use Rattle.names.specs.Text.{bytes, nameOf, keyBytes, keyFrom, rowNamed, decimal, sizes, letters, letterOf, lanesOf, suffixText, listed, operandsOf, operandAt, textOf}
+use Rattle.names.specs.Digits.{decimal}
+use Rattle.names.specs.Text.{keyOf, nameOf, keyFrom, rowNamed, letters, letterOf, lanesOf, suffixText, listed, destinationOperand, governingOperand, sourceOperand, operandsNamed, textOf}
+use Rattle.names.proofs.Decimals.{decimal-least}
 use Rattle.assembles.specs.Reading.{pastSpace, numberIn, fromEnd, placeOf, sizeIn, firstIn, secondIn, thirdIn, fields, readAs, fieldsFrom}
 use Rattle.assembles.proofs.Free.{free-letter, past-operand, past-name}
 use Rattle.assembles.proofs.Numbers.{listed-number}
-use Rattle.assembles.proofs.Ends.{end-append, lastOf, listed-end, lane-end, lanes-end, place-letter, decimal-least, count-end, count-q}
+use Rattle.assembles.proofs.Ends.{end-append, lastOf, listed-end, lane-end, lanes-end, place-letter, count-end, count-q}
 
 -- a row's first six bytes name it, whatever follows
 rowGood : ℕ → Bool
-rowGood row = both (leb keyBytes (length (nameOf row ++ bytes " "))) (eqb (rowNamed (nameOf row ++ bytes " ")) row)
+rowGood row = both (leb nameBytes (length (nameOf row ++ bytes " "))) (eqb (rowNamed (nameOf row ++ bytes " ")) row)
 
 rows-good : every rows rowGood ≡ true
-unfolding rowGood nameOf rowNamed keyFrom
+unfolding rowGood rowAt keyOf nameOf rowNamed keyFrom
 rows-good = refl
 
 row-back : (row : ℕ) (l : List ℕ) → row < rows → rowNamed (nameOf row ++ bytes " " ++ l) ≡ row
 unfolding rowGood rowNamed
 row-back row l h =
     let e = at-each rows rowGood rows-good row h in
-    ap (keyFrom 0 _) (take-append-le keyBytes (nameOf row ++ bytes " ") l (leb-true _ _ (both-left _ _ e)))
-    ∙ eqb-true _ _ (both-right (leb keyBytes (length (nameOf row ++ bytes " "))) _ e)
+    ap (keyFrom 0 _) (take-append-le nameBytes (nameOf row ++ bytes " ") l (leb-true _ _ (both-left _ _ e)))
+    ∙ eqb-true _ _ (both-right (leb nameBytes (length (nameOf row ++ bytes " "))) _ e)
 
 -- a text by its first two operands and the others
 module _ (f : Fields) (h : f .row < rows) (o p : Operand) (os : List Operand)
@@ -77,31 +83,20 @@ fields-same f size d g n m q hs hd hg hn hm hq =
 
 module _ (f : Fields) (r : InRange f) where
   -- a number of two digits
-  register : (n : ℕ) → n < 2 ^ 5 → n < 100
+  register : (n : ℕ) → n < 2 ^ registerDigits → n < 100
   register n h = omega arith
 
-  governing : f .g < 100
-  governing = omega (arith, r .g)
-
-  -- a text by its operands
-  abbrev Reads : Form → List Operand → Type 0
-  Reads form os = textOf f ≡ nameOf (f .row) ++ bytes " " ++ listed (operandAt 0 form f ∷ operandAt 1 form f ∷ os)
-
   -- what is read of a form of three operands, the last with lanes of a size
-  record Three (form : Form) (size : ℕ) : Type 0 where
-    first : firstIn (textOf f) ≡ operandAt 0 form f .number
-    second : secondIn (textOf f) ≡ operandAt 1 form f .number
-    third : thirdIn (textOf f) ≡ operandAt 2 form f .number
+  record Three (o p q : Operand) (size : ℕ) : Type 0 where
+    first : firstIn (textOf f) ≡ o .number
+    second : secondIn (textOf f) ≡ p .number
+    third : thirdIn (textOf f) ≡ q .number
     lane : sizeIn (textOf f) ≡ size
 
-  three : (form : Form) (size : ℕ) → Reads form (operandAt 2 form f ∷ [])
-      → eqb (operandAt 0 form f .letter) 32 ≡ false → eqb (operandAt 1 form f .letter) 32 ≡ false
-      → operandAt 0 form f .number < 100 → operandAt 1 form f .number < 100 → operandAt 2 form f .number < 100
-      → operandAt 2 form f .suffix ≡ Lane size → size < sizes → Three form size
-  three form size reads lo lp ho hp hq e h =
-      let o = operandAt 0 form f in
-      let p = operandAt 1 form f in
-      let q = operandAt 2 form f in
+  three : (o p q : Operand) (size : ℕ) → textOf f ≡ nameOf (f .row) ++ bytes " " ++ listed (o ∷ p ∷ q ∷ [])
+      → eqb (o .letter) 32 ≡ false → eqb (p .letter) 32 ≡ false → o .number < 100 → p .number < 100 → q .number < 100
+      → q .suffix ≡ Lane size → size < sizes → Three o p q size
+  three o p q size reads lo lp ho hp hq e h =
       record {
         first = first-number f (r .row) o p (q ∷ []) reads lo ho;
         second = second-number f (r .row) o p (q ∷ []) reads lo hp;
@@ -112,24 +107,12 @@ module _ (f : Fields) (r : InRange f) where
             ∙ place-letter size h;
       }
 
-  -- a form with a governing predicate and one source
-  governed : (form : Form) (size s : ℕ) → formOf (f .row) ≡ form → hasSecond form ≡ false → hasQ form ≡ false → Three form size
-      → operandAt 0 form f .number ≡ f .d → operandAt 1 form f .number ≡ f .g → operandAt 2 form f .number ≡ f .n → s ≡ f .size
-      → fields (f .row) s (firstIn (textOf f)) (secondIn (textOf f)) (thirdIn (textOf f)) 0 0 ≡ f
-  governed form size s is single without t d g n hs =
-      fields-same f _ _ _ _ _ _ hs (t .first ∙ d) (t .second ∙ g) (t .third ∙ n) (sym (r .single (rw is single))) (sym (r .without-q (rw is without)))
-
-  -- a form with two sources
-  widening : (signed top : Bool) → formOf (f .row) ≡ Widening signed top → Three (Widening signed top) (f .size - 1) → 1 ≤ f .size
-      → readAs (f .row) (Widening signed top) (textOf f) ≡ f
-  widening signed top is t least =
-      fields-same f _ _ _ _ _ _ (omega (arith, t .lane)) (t .first) (sym (r .ungoverned (rw is))) (t .second) (t .third) (sym (r .without-q (rw is)))
-
   -- a long form has a count of lanes last
-  long : (signed : Bool) → formOf (f .row) ≡ Long signed → Reads (Long signed) [] → readAs (f .row) (Long signed) (textOf f) ≡ f
-  long signed is reads =
-      let o = operandAt 0 (Long signed) f in
-      let p = operandAt 1 (Long signed) f in
+  long : f .g ≡ 0 → f .m ≡ 0 → f .q < 2 → textOf f ≡ nameOf (f .row) ++ bytes " " ++ listed (operandsNamed (Low Long) f)
+      → readAs (f .row) (Low Long) (textOf f) ≡ f
+  long hg hm hq reads =
+      let o = destinationOperand (Low Long) f in
+      let p = sourceOperand (Low Long) (f .n) f in
       let count = lanesOf (f .q) (f .size) in
       let letter = free-letter (f .size + 1) in
       let most = length-append (decimal count) (letterOf (f .size) ∷ []) in
@@ -139,38 +122,43 @@ module _ (f : Fields) (r : InRange f) where
       let before = text-end f (r .row) o p [] reads letter 2 (omega (arith, decimal-least count)) ∙ count-end count (f .size) in
       fields-same f _ _ _ _ _ _ size
       (first-number f (r .row) o p [] reads letter (register (f .d) (r .d)))
-      (sym (r .ungoverned (rw is)))
+      (sym hg)
       (second-number f (r .row) o p [] reads letter (register (f .n) (r .n)))
-      (sym (r .single (rw is)))
-      (rw (size, before) (count-q (f .size) (f .q) (r .size) (r .q)))
+      (sym hm)
+      (rw (size, before) (count-q (f .size) (f .q) (r .size) hq))
 
-  -- the least size of the forms that end in half the width
-  size-least : (form : Form) → formOf (f .row) ≡ form → leastSize form ≤ f .size
-  size-least form is = leb-true _ _ (both-left _ (leb (f .size) (mostSize form (f .q))) (rw is at (r .allowed)))
-
-  -- the fields are read back, form by form
-  form-back : (form : Form) → formOf (f .row) ≡ form → textOf f ≡ nameOf (f .row) ++ bytes " " ++ listed (operandsOf form f)
-      → readAs (f .row) form (textOf f) ≡ f
-  form-back (Reduction signed) is reads =
-      let t = three (Reduction signed) (f .size) reads refl refl (register (f .d) (r .d)) governing (register (f .n) (r .n)) refl (r .size) in
-      governed (Reduction signed) (f .size) _ is refl refl t refl refl refl (t .lane)
-  form-back Segment is reads =
-      let t = three Segment (f .size) reads refl refl (register (f .d) (r .d)) governing (register (f .n) (r .n)) refl (r .size) in
-      governed Segment (f .size) _ is refl refl t refl refl refl (t .lane)
-  form-back (Long signed) is reads = long signed is reads
-  form-back (Pairwise signed) is reads =
-      let least = size-least (Pairwise signed) is in
-      let t = three (Pairwise signed) (f .size - 1) reads refl refl (register (f .d) (r .d)) governing (register (f .n) (r .n)) refl
-      (omega (arith, r .size)) in
-      governed (Pairwise signed) (f .size - 1) _ is refl refl t refl refl refl (omega (arith, t .lane))
-  form-back (Widening signed top) is reads =
-      let t = three (Widening signed top) (f .size - 1) reads refl refl (register (f .d) (r .d)) (register (f .n) (r .n))
-      (register (f .m) (r .m)) refl (omega (arith, r .size)) in
-      widening signed top is t (size-least (Widening signed top) is)
+  -- the fields are read back, family by family: a field of no digits is 0
+  family-back : (family : Family) (signed : Bool) → f .g < 2 ^ governingDigits family → f .m < 2 ^ secondDigits family → f .q < 2 ^ qDigits family
+      → allowsFamily family signed (f .q) (f .size) ≡ true → textOf f ≡ nameOf (f .row) ++ bytes " " ++ listed (operandsNamed family f)
+      → readAs (f .row) family (textOf f) ≡ f
+  family-back (Low Reduction) signed hg hm hq ok reads =
+      let family = Low Reduction in
+      let t = three (destinationOperand family f) (governingOperand family f) (sourceOperand family (f .n) f) (f .size) reads refl refl
+      (register (f .d) (r .d)) (omega arith) (register (f .n) (r .n)) refl (r .size) in
+      fields-same f _ _ _ _ _ _ (t .lane) (t .first) (t .second) (t .third) (omega arith) (omega arith)
+  family-back (Low Segment) signed hg hm hq ok reads =
+      let family = Low Segment in
+      let t = three (destinationOperand family f) (governingOperand family f) (sourceOperand family (f .n) f) (f .size) reads refl refl
+      (register (f .d) (r .d)) (omega arith) (register (f .n) (r .n)) refl (r .size) in
+      fields-same f _ _ _ _ _ _ (t .lane) (t .first) (t .second) (t .third) (omega arith) (omega arith)
+  family-back (Low Long) signed hg hm hq ok reads = long (omega arith) (omega arith) (omega arith) reads
+  family-back (Wide Pairwise) signed hg hm hq ok reads =
+      let family = Wide Pairwise in
+      let least = leb-true 1 (f .size) (both-left _ (leb (f .size) 3) ok) in
+      let t = three (destinationOperand family f) (governingOperand family f) (sourceOperand family (f .n) f) (f .size - 1) reads refl refl
+      (register (f .d) (r .d)) (omega arith) (register (f .n) (r .n)) refl (omega (arith, r .size)) in
+      fields-same f _ _ _ _ _ _ (omega (arith, t .lane)) (t .first) (t .second) (t .third) (omega arith) (omega arith)
+  family-back (Wide Widening) signed hg hm hq ok reads =
+      let family = Wide Widening in
+      let least = leb-true 1 (f .size) (both-left _ (leb (f .size) 3) ok) in
+      let t = three (destinationOperand family f) (sourceOperand family (f .n) f) (sourceOperand family (f .m) f) (f .size - 1) reads refl refl
+      (register (f .d) (r .d)) (register (f .n) (r .n)) (register (f .m) hm) refl (omega (arith, r .size)) in
+      fields-same f _ _ _ _ _ _ (omega (arith, t .lane)) (t .first) (omega arith) (t .second) (t .third) (omega arith)
 
   -- so the fields of a text are those that it was made of
   pub read-back : fieldsFrom (textOf f) ≡ f
   unfolding textOf
   read-back =
-      let row = row-back (f .row) (listed (operandsOf (formOf (f .row)) f)) (r .row) in
-      ap (λ (i : ℕ). readAs i (formOf i) (textOf f)) row ∙ form-back (formOf (f .row)) refl refl
+      let family = familyOf (f .row) in
+      let row = row-back (f .row) (listed (operandsNamed family f)) (r .row) in
+      ap (λ (i : ℕ). readAs i (familyOf i) (textOf f)) row ∙ family-back family _ (r .g) (r .m) (r .q) (r .allowed) refl

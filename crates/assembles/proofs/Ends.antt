@@ -1,19 +1,21 @@
 -- How a text ends: as the last operand's suffix does, with the letter of a size and, before it, the last digit of a count of lanes.
 -- Assumes nothing.
 use mathlib.Core.Path.{_≡_, refl, _∙_, ap}
-use mathlib.Core.Bool.{Bool, true, false, cond}
+use mathlib.Core.Bool.{Bool, true, cond}
 use mathlib.Core.List.{List, [], _∷_, _++_, append-assoc, append-nil}
-use Prim.Native.Nat.{ℕ, _-_, _/_, _≤_, _<_}
+use Prim.Native.Nat.{ℕ, zero, suc, _-_, _/_, _%_, _≤_, _<_}
 use native.Mathlib.Omega.{arith}
-use lib.Dec.{eqb, ltb}
+use lib.Dec.{eqb}
 use lib.ListN.{length, getD, length-append}
 use lib.Seq.{getD-append-add}
-use borrow.Author.Tests.{le-leb, eqb-true, ltb-true, ltb-false}
+use borrow.Author.Tests.{le-leb, eqb-true}
+use Rattle.machine.specs.Size.{sizes}
 use Rattle.words.proofs.Every.{every, at-each}
 use Rattle.names.specs.declared.Suffix.the-variants.{Lane, Lanes}
 use Rattle.names.specs.declared.Operand.{Operand}
-use Rattle.names.specs.Text.{digit, decimal, sizes, letters, letterOf, lanesOf, suffixText, operandText, listed}
-use Rattle.names.proofs.Pieces.{decimal-one, decimal-two}
+use Rattle.names.specs.Digits.{digitOf, digitsIn, decimalWidth, decimal}
+use Rattle.names.specs.Text.{letters, letterOf, lanesOf, suffixText, operandText, listed}
+use Rattle.names.proofs.Decimals.{digits-length, decimal-least}
 use Rattle.assembles.specs.Reading.{fromEnd, placeOf, fullDigits}
 
 -- the end of two lists is that of the second
@@ -69,33 +71,29 @@ unfolding letterGood
 place-letter size h = eqb-true _ _ (at-each sizes letterGood letters-good size h)
 
 -- the byte before the last is the count's last digit
-decimal-last : (n : ℕ) → (l : List ℕ) × (decimal n ≡ l ++ (digit n ∷ []))
-decimal-last n = go (ltb n 10) refl
+decimal-last : (n : ℕ) → (l : List ℕ) × (decimal n ≡ l ++ (digitOf (n % 10) ∷ []))
+unfolding digitsIn
+decimal-last n = go (decimalWidth n) refl
   where
-    go : (t : Bool) → ltb n 10 ≡ t → (l : List ℕ) × (decimal n ≡ l ++ (digit n ∷ []))
-    go true e = ([], decimal-one n (ltb-true _ _ e))
-    go false e = (digit (n / 10) ∷ [], decimal-two n (ltb-false _ _ e))
+    go : (w : ℕ) → decimalWidth n ≡ w → (l : List ℕ) × (digitsIn 10 (decimalWidth n) n ≡ l ++ (digitOf (n % 10) ∷ []))
+    go zero e = absurd (omega (arith, decimal-least n, digits-length 10 (decimalWidth n) n))
+    go (suc w) e = (digitsIn 10 w (n / 10), rw e)
 
-pub decimal-least : (n : ℕ) → 1 ≤ length (decimal n)
-decimal-least n =
-    let (l, e) = decimal-last n in
-    rw (e, length-append l (digit n ∷ [])) (omega arith)
-
-pub count-end : (count size : ℕ) → fromEnd (suffixText (Lanes count size)) 2 ≡ digit count
+pub count-end : (count size : ℕ) → fromEnd (suffixText (Lanes count size)) 2 ≡ digitOf (count % 10)
 unfolding fromEnd
 count-end count size =
     let (l, e) = decimal-last count in
-    rw (e, append-assoc l (digit count ∷ []) (letterOf size ∷ []))
-    (end-append (46 ∷ l) (digit count ∷ letterOf size ∷ []) 2 (omega arith))
+    rw (e, append-assoc l (digitOf (count % 10) ∷ []) (letterOf size ∷ []))
+    (end-append (46 ∷ l) (digitOf (count % 10) ∷ letterOf size ∷ []) 2 (omega arith))
 
 -- which tells Q
 qGood : ℕ → ℕ → Bool
-qGood size q = eqb (cond (eqb (digit (lanesOf q size)) (getD fullDigits size 0)) 1 0) q
+qGood size q = eqb (cond (eqb (digitOf (lanesOf q size % 10)) (getD fullDigits size 0)) 1 0) q
 
 q-good : every sizes (λ size. every 2 (qGood size)) ≡ true
-unfolding qGood
+unfolding qGood digitOf
 q-good = refl
 
-pub count-q : (size q : ℕ) → size < sizes → q < 2 → cond (eqb (digit (lanesOf q size)) (getD fullDigits size 0)) 1 0 ≡ q
+pub count-q : (size q : ℕ) → size < sizes → q < 2 → cond (eqb (digitOf (lanesOf q size % 10)) (getD fullDigits size 0)) 1 0 ≡ q
 unfolding qGood
 count-q size q hs hq = eqb-true _ _ (at-each 2 (qGood size) (at-each sizes (λ s. every 2 (qGood s)) q-good size hs) q hq)

@@ -1,20 +1,21 @@
 -- What stands between the spaces of a text: the name and the operands, which have none.
 -- Assumes nothing.
 use mathlib.Core.Path.{_≡_, refl, sym, _∙_, ap}
-use mathlib.Core.Bool.{Bool, true, false, cond}
+use mathlib.Core.Bool.{Bool, true, false, not, cond}
 use mathlib.Core.List.{List, [], _∷_, _++_}
-use Prim.Native.Nat.{ℕ, zero, suc, _/_, _<_}
+use Prim.Native.Nat.{ℕ, zero, suc, _/_, _%_, _<_}
+use native.Mathlib.Nat.{mod-lt}
 use native.Mathlib.Omega.{arith}
-use lib.Dec.{eqb, ltb}
+use lib.Dec.{eqb}
 use lib.Seq.{append-snoc}
-use borrow.Author.Tests.{ne-eqb, ltb-true, ltb-false}
-use Rattle.words.specs.Table.{rows}
+use Rattle.words.specs.Text.{bytes}
+use Rattle.words.specs.Table.{rows, rowAt}
 use Rattle.words.proofs.Every.{every, at-each}
 use Rattle.names.specs.declared.Suffix.{Suffix}
 use Rattle.names.specs.declared.Suffix.the-variants.{Plain, Lane, Lanes, Merging}
 use Rattle.names.specs.declared.Operand.{Operand}
-use Rattle.names.specs.Text.{bytes, nameOf, digit, decimal, letterOf, suffixText, operandText, listed}
-use Rattle.names.proofs.Pieces.{decimal-one, decimal-two}
+use Rattle.names.specs.Digits.{digitOf, digitsIn, decimalWidth, decimal}
+use Rattle.names.specs.Text.{keyOf, nameOf, letterOf, suffixText, operandText, listed}
 use Rattle.assembles.specs.Reading.{pastSpace}
 
 -- bytes with no space among them
@@ -42,15 +43,28 @@ past-free (b ∷ k) rest e = go (eqb b 32) e (λ e′. past-free k rest e′)
     go false e rest = rest e
 
 -- the pieces of a text
-free-digit : (n : ℕ) → eqb (digit n) 32 ≡ false
-free-digit n = ne-eqb (digit n) 32 (λ e. omega arith)
+digitFree : ℕ → Bool
+digitFree d = not (eqb (digitOf d) 32)
+
+digits-free : every 10 digitFree ≡ true
+unfolding digitFree digitOf
+digits-free = refl
+
+free-digit : (n : ℕ) → eqb (digitOf (n % 10)) 32 ≡ false
+unfolding digitFree
+free-digit n = go _ (at-each 10 digitFree digits-free (n % 10) (mod-lt n (omega arith)))
+  where
+    go : (t : Bool) → not t ≡ true → t ≡ false
+    go true e = sym e
+    go false e = refl
+
+free-digits : (count n : ℕ) → free (digitsIn 10 count n) ≡ true
+unfolding digitsIn
+free-digits zero n = refl
+free-digits (suc count) n = free-append (digitsIn 10 count (n / 10)) (digitOf (n % 10) ∷ []) (free-digits count (n / 10)) (rw (free-digit n))
 
 free-decimal : (n : ℕ) → free (decimal n) ≡ true
-free-decimal n = go (ltb n 10) refl
-  where
-    go : (t : Bool) → ltb n 10 ≡ t → free (decimal n) ≡ true
-    go true e = rw (decimal-one n (ltb-true _ _ e), free-digit n)
-    go false e = rw (decimal-two n (ltb-false _ _ e), free-digit (n / 10), free-digit n)
+free-decimal n = free-digits (decimalWidth n) n
 
 pub free-letter : (size : ℕ) → eqb (letterOf size) 32 ≡ false
 unfolding letterOf
@@ -77,7 +91,7 @@ past-operand o p os h =
 
 -- and past the name's, the first
 names-free : every rows (λ i. free (nameOf i)) ≡ true
-unfolding nameOf
+unfolding nameOf keyOf rowAt
 names-free = refl
 
 pub past-name : (row : ℕ) (l : List ℕ) → row < rows → pastSpace (nameOf row ++ bytes " " ++ l) ≡ l

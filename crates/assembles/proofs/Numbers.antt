@@ -3,29 +3,48 @@
 use mathlib.Core.Path.{_≡_, refl, _∙_, ap}
 use mathlib.Core.Bool.{Bool, true, false}
 use mathlib.Core.List.{List, [], _∷_, _++_, append-assoc}
-use Prim.Native.Nat.{ℕ, _<_}
+use Prim.Native.Nat.{ℕ, _/_, _%_, _<_}
+use native.Mathlib.Nat.{mod-lt}
 use native.Mathlib.Omega.{arith}
-use lib.Dec.{ltb}
+use lib.Dec.{eqb}
 use lib.ListN.{getD}
-use borrow.Author.Tests.{le-leb, ltb-true, ltb-false}
+use borrow.Author.Tests.{eqb-true}
+use Rattle.parts.specs.Part.{both}
+use Rattle.parts.proofs.Same.{both-left, both-right}
+use Rattle.words.proofs.Every.{every, at-each}
 use Rattle.names.specs.declared.Suffix.{Suffix}
 use Rattle.names.specs.declared.Suffix.the-variants.{Plain, Lane, Lanes, Merging}
 use Rattle.names.specs.declared.Operand.{Operand}
-use Rattle.names.specs.Text.{digit, decimal, suffixText, following, listed}
-use Rattle.names.proofs.Pieces.{decimal-one, decimal-two}
-use Rattle.assembles.specs.Reading.{isDigit, numberIn}
+use Rattle.names.specs.Digits.{digitOf, decimal}
+use Rattle.names.specs.Text.{suffixText, following, listed}
+use Rattle.names.proofs.Decimals.{Width, one, two, three, four, five, width, decimal-one, decimal-two}
+use Rattle.assembles.specs.Reading.{worth, isDigit, numberIn}
 
-digit-is : (n : ℕ) → isDigit (digit n) ≡ true
-digit-is n = rw (le-leb 48 (digit n) (omega arith), le-leb (digit n) 57 (omega arith))
+-- a digit is one, and is worth its value
+digitGood : ℕ → Bool
+digitGood d = both (isDigit (digitOf d)) (eqb (worth (digitOf d)) d)
+
+digits-good : every 10 digitGood ≡ true
+unfolding digitGood digitOf
+digits-good = refl
+
+digit-is : (n : ℕ) → (isDigit (digitOf (n % 10)) ≡ true) × (worth (digitOf (n % 10)) ≡ n % 10)
+unfolding digitGood
+digit-is n =
+    let e = at-each 10 digitGood digits-good (n % 10) (mod-lt n (omega arith)) in
+    (both-left _ _ e, eqb-true _ _ (both-right (isDigit (digitOf (n % 10))) _ e))
 
 -- a number below 100 after a letter, and no digit after it
 number-back : (l n : ℕ) (s : List ℕ) → n < 100 → isDigit (getD s 0 0) ≡ false → numberIn (l ∷ decimal n ++ s) ≡ n
 unfolding numberIn
-number-back l n s h e = go (ltb n 10) refl
+number-back l n s h e = go (width n)
   where
-    go : (t : Bool) → ltb n 10 ≡ t → numberIn (l ∷ decimal n ++ s) ≡ n
-    go true less = rw (decimal-one n (ltb-true _ _ less), e) (omega (arith, ltb-true n 10 less))
-    go false more = rw (decimal-two n (ltb-false _ _ more), digit-is n) (omega arith)
+    go : Width n → numberIn (l ∷ decimal n ++ s) ≡ n
+    go (one a w) = rw (decimal-one n w, e) (omega (arith, digit-is n .1))
+    go (two a b w) = rw (decimal-two n w, digit-is n .0) (omega (arith, digit-is n .1, digit-is (n / 10) .1))
+    go (three a b w) = absurd (omega arith)
+    go (four a b w) = absurd (omega arith)
+    go (five a w) = absurd (omega arith)
 
 -- what follows a number begins with no digit
 suffix-tail : (s : Suffix) (rest : List ℕ) → isDigit (getD rest 0 0) ≡ false → isDigit (getD (suffixText s ++ rest) 0 0) ≡ false

@@ -1,24 +1,34 @@
 -- What the assembler reads in a text, whatever its bytes are: the row by its first six bytes, the size by its last, the numbers after the
 -- first letter of each operand. Of a text of an accepted word these make the word; of any other text nothing is promised of them.
-use Prim.Native.Nat.{ℕ, suc, _+_, _*_, _-_, _%_, _^_}
+use mathlib.Core.Path.{_≡_}
+use Prim.Native.Nat.{ℕ, suc, _+_, _*_, _-_, _%_, _^_, _≤_}
 use Prim.Native.Char.{code}
 use mathlib.Core.Bool.{Bool, cond}
 use mathlib.Core.List.{List, [], _∷_}
 use lib.Dec.{eqb, leb}
-use lib.ListN.{length, getD}
-use Rattle.machine.specs.Size.{both}
+use lib.ListN.{length, getD, drop}
+use Rattle.parts.specs.Part.{both}
 use Rattle.words.specs.Digits.{wordDigits}
-use Rattle.words.specs.Table.{formOf}
+use Rattle.words.specs.Text.{bytes}
+use Rattle.words.specs.Table.{familyOf}
+use Rattle.words.specs.Field.{sizeDigits, registerDigits, predicateDigits}
 use Rattle.words.specs.Encode.{encoded}
-use Rattle.words.specs.declared.Form.{Form}
-use Rattle.words.specs.declared.Form.the-variants.{Reduction, Segment, Long, Pairwise, Widening}
+use Rattle.words.specs.declared.Family.{Family}
+use Rattle.words.specs.declared.Family.the-variants.{Low, Wide}
+use Rattle.words.specs.declared.LowFamily.the-variants.{Reduction, Segment, Long}
+use Rattle.words.specs.declared.WideFamily.the-variants.{Pairwise, Widening}
 use Rattle.words.specs.declared.Fields.{Fields}
-use Rattle.names.specs.Text.{bytes, rowNamed, letters}
+use Rattle.names.specs.Text.{rowNamed, letters}
 
 -- what follows the first space
 unfoldable pub pastSpace : List ℕ → List ℕ
 pastSpace [] = []
 pastSpace (b ∷ l) = cond (eqb b (code " ")) l (pastSpace l)
+
+-- the place after the first space from a place on; the end where there is none
+pub record PastSpace (text : List ℕ) (from r : ℕ) : Type 0 where
+  pub within : r ≤ length text
+  pub rest : drop r text ≡ pastSpace (drop from text)
 
 -- a byte's worth as a decimal digit, and whether it is one
 abbrev pub worth : ℕ → ℕ
@@ -64,24 +74,27 @@ thirdIn text = numberIn (pastSpace (pastSpace (pastSpace text)))
 abbrev pub fields : ℕ → ℕ → ℕ → ℕ → ℕ → ℕ → ℕ → Fields
 fields row size d g n m q = record { row = row; size = size; n = n; d = d; g = g; m = m; q = q }
 
--- the fields by the form, of the size of the last letter, three numbers and Q; the last letter is of half the width in the last two
-abbrev pub byForm : ℕ → Form → ℕ → ℕ → ℕ → ℕ → ℕ → Fields
-byForm row (Reduction signed) size a b c q = fields row size a b c 0 0
-byForm row Segment size a b c q = fields row size a b c 0 0
-byForm row (Long signed) size a b c q = fields row size a 0 b 0 q
-byForm row (Pairwise signed) size a b c q = fields row (size + 1) a b c 0 0
-byForm row (Widening signed top) size a b c q = fields row (size + 1) a 0 b c 0
+-- the fields by the family, of the size of the last letter, the numbers of three operands and Q; the last letter of a family that writes every
+-- lane is of half the width
+abbrev pub byFamily : ℕ → Family → ℕ → ℕ → ℕ → ℕ → ℕ → Fields
+byFamily row (Low Reduction) size a b c q = fields row size a b c 0 0
+byFamily row (Low Segment) size a b c q = fields row size a b c 0 0
+byFamily row (Low Long) size a b c q = fields row size a 0 b 0 q
+byFamily row (Wide Pairwise) size a b c q = fields row (size + 1) a b c 0 0
+byFamily row (Wide Widening) size a b c q = fields row (size + 1) a 0 b c 0
 
 -- the fields of a text of a row
-abbrev pub readAs : ℕ → Form → List ℕ → Fields
-readAs row form text = byForm row form (sizeIn text) (firstIn text) (secondIn text) (thirdIn text) (qIn (sizeIn text) text)
+abbrev pub readAs : ℕ → Family → List ℕ → Fields
+readAs row family text = byFamily row family (sizeIn text) (firstIn text) (secondIn text) (thirdIn text) (qIn (sizeIn text) text)
 
 abbrev pub fieldsFrom : List ℕ → Fields
-fieldsFrom text = readAs (rowNamed text) (formOf (rowNamed text)) text
+fieldsFrom text = readAs (rowNamed text) (familyOf (rowNamed text)) text
 
 -- a word with these fields, of each as many digits as its place has
 abbrev pub limited : Fields → Fields
-limited f = fields (f .row) (f .size % 4) (f .d % 32) (f .g % 8) (f .n % 32) (f .m % 32) (f .q % 2)
+limited f =
+    fields (f .row) (f .size % 2 ^ sizeDigits) (f .d % 2 ^ registerDigits) (f .g % 2 ^ predicateDigits) (f .n % 2 ^ registerDigits)
+    (f .m % 2 ^ registerDigits) (f .q % 2)
 
 abbrev pub wordOf : Fields → ℕ
 wordOf f = encoded (limited f) % 2 ^ wordDigits

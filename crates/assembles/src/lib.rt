@@ -1,19 +1,26 @@
 // Text to word: the fields are read leniently, the word with these fields is named, and its text must be the bytes that were given.
 use machine::Answer;
+use machine::Length;
 use machine::refusal;
+use words::Family;
 use words::Fields;
-use words::Form;
+use words::LowFamily;
+use words::PREDICATE_DIGITS;
+use words::REGISTER_DIGITS;
+use words::SIZE_DIGITS;
+use words::WideFamily;
+use words::place;
 ghost use mathlib.Core.Path.{_≡_};
-ghost use Prim.Native.Nat.{_*_, _%_, _≤_, _<_, _^_};
+ghost use Prim.Native.Nat.{_*_, _%_, _≤_, _^_};
 ghost use lib.ListN.{length, getD, drop};
-ghost use Rattle.words.specs.Digits.{wordDigits};
-ghost use Rattle.words.specs.Table.{rowAt, formOf};
-ghost use Rattle.names.specs.Text.{sizes, letters};
-ghost use Rattle.assembles.specs.Reading.{pastSpace, worth, isDigit, numberIn, fromEnd, placeOf, sizeIn, fullDigits, qIn, fields, byForm, fieldsFrom, wordOf};
+ghost use Rattle.machine.specs.Size.{sizes};
+ghost use Rattle.words.specs.Field.{registerDigits, qPlace};
+ghost use Rattle.names.specs.Text.{letters};
+ghost use Rattle.assembles.specs.Reading.{PastSpace, worth, isDigit, numberIn, fromEnd, placeOf, sizeIn, fullDigits, qIn, fields, byFamily, fieldsFrom, wordOf};
 ghost use Rattle.assembles.specs.Assembled.{Assembled};
 
 // The last digits of how many lanes of each size 16 bytes have.
-const FULL_DIGITS: [u8; names::SIZES] = *b"6842";
+const FULL_DIGITS: [u8; Length::SIZES] = *b"6842";
 
 // The byte at a place; 0 past the end.
 fn byte_at(text: &[u8], at: usize) -> u8
@@ -36,7 +43,7 @@ fn byte_from_end(text: &[u8], k: usize) -> u8
 // The place after the first space from a place on; the end where there is none.
 fn past_space(text: &[u8], from: usize) -> usize
     requires { ⌜ from ≤ length (now text) ⌝ }
-    ensures { λ r. ⌜ (r ≤ length (now (text .entry))) × (drop r (now (text .entry)) ≡ pastSpace (drop from (now (text .entry)))) ⌝ }
+    ensures { λ r. ⌜ PastSpace (now (text .entry)) from r ⌝ }
 {
     let mut at = from;
     while at < text.len() {
@@ -87,7 +94,7 @@ fn size_of(letter: u8) -> usize
         b'h' => 1,
         b's' => 2,
         b'd' => 3,
-        _ => names::SIZES,
+        _ => Length::SIZES,
     }
 }
 
@@ -113,7 +120,7 @@ fn q_in(size: usize, text: &[u8]) -> usize
 fn full_digit(size: usize) -> u8
     ensures { λ r. ⌜ r ≡ getD fullDigits size 0 ⌝ }
 {
-    if size < names::SIZES {
+    if size < Length::SIZES {
         FULL_DIGITS[size]
     } else {
         0
@@ -135,17 +142,29 @@ fn fields(row: usize, size: usize, d: usize, g: usize, n: usize, m: usize, q: us
     }
 }
 
-// The fields by the form, of the size of the last letter, three numbers and Q.
-fn by_form(row: usize, size: usize, a: usize, b: usize, c: usize, q: usize) -> Fields
+// The fields by the family, of the size of the last letter, the numbers of three operands and Q.
+fn by_family(
+    row: usize,
+    family: Family,
+    size: usize,
+    a: usize,
+    b: usize,
+    c: usize,
+    q: usize,
+) -> Fields
     requires { ⌜ size ≤ sizes ⌝ }
-    ensures { λ r. ⌜ r ≡ byForm row (formOf row) size a b c q ⌝ }
+    ensures { λ r. ⌜ r ≡ byFamily row family size a b c q ⌝ }
 {
-    match words::form_of(row) {
-        Form::Reduction(_) => fields(row, size, a, b, c, 0, 0),
-        Form::Segment => fields(row, size, a, b, c, 0, 0),
-        Form::Long(_) => fields(row, size, a, 0, b, 0, q),
-        Form::Pairwise(_) => fields(row, size + 1, a, b, c, 0, 0),
-        Form::Widening(_, _) => fields(row, size + 1, a, 0, b, c, 0),
+    match family {
+        Family::Low(low) => match low {
+            LowFamily::Reduction => fields(row, size, a, b, c, 0, 0),
+            LowFamily::Segment => fields(row, size, a, b, c, 0, 0),
+            LowFamily::Long => fields(row, size, a, 0, b, 0, q),
+        },
+        Family::Wide(wide) => match wide {
+            WideFamily::Pairwise => fields(row, size + 1, a, b, c, 0, 0),
+            WideFamily::Widening => fields(row, size + 1, a, 0, b, c, 0),
+        },
     }
 }
 
@@ -161,36 +180,30 @@ fn read_fields(text: &[u8]) -> Fields
     let b = number_at(text, second);
     let c = number_at(text, third);
     let size = size_in(text);
-    by_form(row, size, a, b, c, q_in(size, text))
+    by_family(row, words::family_of(row), size, a, b, c, q_in(size, text))
 }
 
-// The value of a row of the table; 0 past the last.
-fn value_of(row: usize) -> u64
-    ensures { λ r. ⌜ (r ≡ rowAt row .value) × (r < 2 ^ wordDigits) ⌝ }
+// A number's last digits at their place in a word.
+fn placed(number: usize, digits: u32, low: u32) -> u64
+    requires { ⌜ (digits ≤ registerDigits) × (low ≤ qPlace) ⌝ }
+    ensures { λ r. ⌜ r ≡ number % 2 ^ digits * 2 ^ low ⌝ }
 {
-    if row < words::ROWS {
-        let entry = words::TABLE[row];
-        return entry.value as u64;
-    }
-    0
-}
-
-// A number's digits below a limit, at their place in a word.
-fn placed(number: usize, limit: usize, place: u64) -> u64
-    requires { ⌜ (0 < limit) × (limit ≤ 32) × (place ≤ 2 ^ 30) ⌝ }
-    ensures { λ r. ⌜ r ≡ number % limit * place ⌝ }
-{
-    (number % limit) as u64 * place
+    ((number % (1 << digits)) as u64) << low
 }
 
 // The word that fields make: the row's value plus each field at its place.
 fn encode(f: Fields) -> u32
     ensures { λ r. ⌜ r ≡ wordOf f ⌝ }
 {
-    let value = value_of(f.row);
-    let sources = placed(f.n, 32, 1 << 5) + placed(f.m, 32, 1 << 16);
-    let others = placed(f.size, 4, 1 << 22) + placed(f.g, 8, 1 << 10) + placed(f.q, 2, 1 << 30);
-    let sum = value + sources + others + placed(f.d, 32, 1);
+    let entry = words::row_at(f.row);
+    let value = entry.2 as u64;
+    let n = placed(f.n, REGISTER_DIGITS, place::SOURCE);
+    let m = placed(f.m, REGISTER_DIGITS, place::SECOND);
+    let size = placed(f.size, SIZE_DIGITS, place::SIZE);
+    let g = placed(f.g, PREDICATE_DIGITS, place::GOVERNING);
+    let q = placed(f.q, 1, place::Q);
+    let d = placed(f.d, REGISTER_DIGITS, place::DESTINATION);
+    let sum = value + n + m + size + g + q + d;
     (sum % 0x100000000) as u32
 }
 

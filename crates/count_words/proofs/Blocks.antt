@@ -10,14 +10,14 @@ use lib.Bits.{bitAnd, and-block, and-mod, and-le-l}
 use lib.Pow.{split, pow-pos}
 use borrow.Author.Tests.{eq-eqb, ne-eqb}
 use Rattle.words.specs.Digits.{digitsAnd, wordDigits}
-use Rattle.words.specs.Table.{rows, rowAt, matches}
+use Rattle.words.specs.Table.{rows, rowAt, rowMask, rowValue, matches}
 use Rattle.words.proofs.Digits.{and-digits, and-below}
 use Rattle.words.proofs.Encoding.{value-within}
 use Rattle.count_words.specs.Tally.{blockWords}
 
 -- the upper half of the row at a place is this one
 abbrev pub Upper : ℕ → ℕ → Type 0
-Upper upper i = bitAnd upper (rowAt i .mask / blockWords) ≡ rowAt i .value / blockWords
+Upper upper i = bitAnd upper (rowMask i / blockWords) ≡ rowValue i / blockWords
 
 -- AND by halves
 and-halves : (upper low m : ℕ) → upper < blockWords → low < blockWords
@@ -33,16 +33,16 @@ pub other-half : (upper low i : ℕ) → upper < blockWords → low < blockWords
 unfolding matches
 other-half upper low i hu hl ne =
     ne-eqb _ _
-    (λ (e : digitsAnd wordDigits (upper * blockWords + low) (rowAt i .mask) ≡ rowAt i .value). ne
-    (omega (arith, and-halves upper low (rowAt i .mask) hu hl, and-le-l low (rowAt i .mask % blockWords))))
+    (λ (e : digitsAnd wordDigits (upper * blockWords + low) (rowMask i) ≡ rowValue i). ne
+    (omega (arith, and-halves upper low (rowMask i) hu hl, and-le-l low (rowMask i % blockWords))))
 
 -- one with this upper half matches the word whose lower half is the value's
 pub same-half : (upper i : ℕ) → upper < blockWords → i < rows → Upper upper i
-    → matches (rowAt i) (upper * blockWords + rowAt i .value % blockWords) ≡ true
+    → matches (rowAt i) (upper * blockWords + rowValue i % blockWords) ≡ true
 unfolding matches
 same-half upper i hu hi e =
-    let v = rowAt i .value in
-    let m = rowAt i .mask in
+    let v = rowValue i in
+    let m = rowMask i in
     let within = value-within i hi in
     let below : v < 2 ^ wordDigits = rw (← within) (and-below wordDigits v m) in
     let lower : bitAnd (v % blockWords) (m % blockWords) ≡ v % blockWords

@@ -1,7 +1,6 @@
 // Counts the words of each answer over all 2^32: upper halves that no row has are passed over, the others are decoded word by word.
 use machine::refusal;
 use words::ROWS;
-use words::TABLE;
 ghost use mathlib.Core.Path.{_≡_};
 ghost use mathlib.Core.Bool.{false, cond};
 ghost use mathlib.Core.Logic.{_↔_, _≢_};
@@ -24,8 +23,8 @@ fn block_matches(upper: u32) -> bool
 {
     let mut i = 0;
     while i < ROWS {
-        let row = TABLE[i];
-        if upper & (row.mask >> HALF) == row.value >> HALF {
+        let row = words::row_at(i);
+        if upper & (row.1 >> HALF) == row.2 >> HALF {
             return true;
         }
         i += 1;

@@ -1,195 +1,211 @@
--- What an accepted step and an accepted step back tell of the lent buffers, and what they leave there.
+-- A step's tests and a step back's, in their order: what an accepted one tells of the lent buffers and leaves there, and that a refused one
+-- leaves all as it stood.
 -- Assumes nothing.
-use Prim.Native.Nat.{ℕ, _*_, _%_, _≤_, _<_}
+use Prim.Native.Nat.{ℕ, _*_, _%_, _-_, _≤_, _<_}
 use mathlib.Core.Path.{_≡_, refl, sym, _∙_, ap}
 use mathlib.Core.Bool.{true, false}
-use mathlib.Core.List.{List, [], _∷_}
+use mathlib.Core.List.{List, _++_}
 use native.Mathlib.Omega.{arith}
 use lib.Dec.{eqb}
 use lib.ListN.{length}
 use borrow.Author.Tests.{leb-true, leb-false, eqb-false, ne-eqb, eq-eqb, not-false}
-use Rattle.machine.specs.Size.{isProgram, wordBytes, mostWords, vectors, vectorBytes, vectorOf}
-use Rattle.machine.specs.Refusal.{Test, UNKNOWN, UNDEFINED, lengthTest, fileTest, programTest}
-use Rattle.machine.proofs.Checks.{both-right}
-use Rattle.pane.specs.Register.{unlessRefused}
-use Rattle.pane.specs.Word.{wordsOf, endTest}
-use Rattle.pane.proofs.Tests.{first, first-none}
-use Rattle.words.specs.Decode.{decoded, numberOf, fieldsOf}
+use Rattle.parts.proofs.Same.{both-right}
+use Rattle.machine.specs.Size.{isProgram, wordBytes, mostWords}
+use Rattle.machine.specs.Refusal.{Test, UNKNOWN, UNDEFINED, filesTests, programTests, refused, first}
+use Rattle.machine.proofs.Tests.{first-none, refused-early, refused-later, none-refused, kept, left}
+use Rattle.machine.proofs.Checks.{files-checked, legal-most}
+use Rattle.registers.specs.declared.Kind.the-variants.{Vector}
+use Rattle.registers.specs.State.{State, state, Sized}
+use Rattle.registers.proofs.Places.{in-files}
+use Rattle.programs.specs.Word.{wordsOf, endTests}
+use Rattle.words.specs.Decode.{decoded, numberOf, fieldsOf, wordTests}
 use Rattle.words.specs.declared.Fields.{Fields}
 use Rattle.words.specs.declared.Decoded.{Decoded}
 use Rattle.words.specs.declared.Decoded.the-variants.{Unknown, Undefined, Word}
 use Rattle.words.proofs.Encoding.{decoded-in-range}
-use Rattle.adds.specs.Execute.{executed}
-use Rattle.adds.specs.Needs.{Executable}
-use Rattle.journal.specs.Layout.{capacity, countOf, pushed, popped}
-use Rattle.journal.specs.Calls.{roomTest, journalTest, fullTest, emptyTest, wordNow, fieldsNow, startRefused, entryRefused, stepRefused, stepVectors, stepJournal, restored, backRefused, backVectors, backJournal}
-use Rattle.journal.proofs.Refusals.{refused-early, refused-later, none-refused, kept}
-use Rattle.journal.proofs.Formed.{Files, Formed, files-of, formed-of, formed-room, formed-journal}
+use Rattle.executes.specs.Execute.{executed}
+use Rattle.executes.specs.Needs.{Executable}
+use Rattle.journal.specs.Layout.{capacity, heldOf, positionOf, lastEntry, pushed, popped}
+use Rattle.journal.specs.Calls.{journalTests, fullTests, emptyTests, startTests, wordNow, fieldsNow, startRefused, stepRefused, stepState, stepJournal, entryFor, restored, backRefused, backState, backJournal, Stepped, Backed, Performed}
+use Rattle.journal.specs.Needs.{Append, TakeBack, TakenBack, Ready}
+use Rattle.journal.proofs.Places.{slot-inside, named-all}
+use Rattle.journal.proofs.Formed.{Formed, journal-checked, formed-room, formed-journal}
 
--- the tests of a step before its word is read, those after, and the tests of a step back
-abbrev pub startTests : ℕ → List ℕ → List ℕ → List ℕ → List ℕ → List Test
-startTests k z p program journal =
-    lengthTest k
-    ∷ fileTest k (length z) (length p)
-    ∷ programTest (length program)
-    ∷ roomTest (length journal)
-    ∷ journalTest k journal
-    ∷ endTest (length program) (countOf journal)
-    ∷ []
+-- the tests of a step once its word is read
+abbrev lateTests : ℕ → Decoded → List ℕ → List Test
+lateTests k word journal = wordTests word ++ fullTests k journal
 
-abbrev pub wordTests : ℕ → Decoded → List ℕ → List Test
-wordTests k x journal = (UNKNOWN, eqb (numberOf x) UNKNOWN) ∷ (UNDEFINED, eqb (numberOf x) UNDEFINED) ∷ fullTest k journal ∷ []
+-- a refusal before the word is read is the step's; past it the word decides, and past the word the room for its entry
+module _ (k : ℕ) (s : State) (program journal : List ℕ) where
+  step-tests : stepRefused k s program journal ≡ first (startTests k s program journal) (refused (lateTests k (decoded (wordNow program journal)) journal))
+  unfolding stepRefused
+  step-tests = refl
 
-abbrev pub backTests : ℕ → List ℕ → List ℕ → List ℕ → List Test
-backTests k z p journal =
-    lengthTest k
-    ∷ fileTest k (length z) (length p)
-    ∷ roomTest (length journal)
-    ∷ journalTest k journal
-    ∷ emptyTest journal
-    ∷ []
+  -- a refused step leaves all as it stood
+  pub step-stood : (r : ℕ) → r ≡ stepRefused k s program journal → (r ≡ 0 → ⊥) → Stepped k s program journal r s journal
+  unfolding stepState stepJournal
+  step-stood r e h =
+      record {
+        answered = e;
+        files = kept _ r (executed (fieldsNow program journal) k s) s e h;
+        bytes = kept _ r (pushed k (entryFor k (fieldsNow program journal) s) journal) journal e h;
+      }
 
--- past the tests before it the word decides, and past the word the room for its entry
-step-tests : (k : ℕ) (z p program journal : List ℕ)
-    → stepRefused k z p program journal ≡ first (startTests k z p program journal) (first (wordTests k (decoded (wordNow program journal)) journal) 0)
-unfolding stepRefused
-step-tests k z p program journal = refl
+  pub start-refused : (r : ℕ) → r ≡ startRefused k s program journal → (r ≡ 0 → ⊥) → Stepped k s program journal r s journal
+  unfolding startRefused
+  start-refused r e h =
+      step-stood r (refused-early (startTests k s program journal) tt (refused (lateTests k (decoded (wordNow program journal)) journal)) r e h ∙ sym step-tests) h
 
-pub start-refused : (k r : ℕ) (z p program journal : List ℕ) → r ≡ startRefused k z p program journal → (r ≡ 0 → ⊥) → r ≡ stepRefused k z p program journal
-unfolding startRefused
-start-refused k r z p program journal e h =
-    refused-early (startTests k z p program journal) tt (first (wordTests k (decoded (wordNow program journal)) journal) 0) r e h
-    ∙ sym (step-tests k z p program journal)
+  pub word-decides : (word : Decoded) → startRefused k s program journal ≡ 0 → decoded (wordNow program journal) ≡ word
+      → stepRefused k s program journal ≡ refused (lateTests k word journal)
+  unfolding startRefused
+  word-decides word e d =
+      step-tests
+      ∙ refused-later (startTests k s program journal) tt (refused (lateTests k (decoded (wordNow program journal)) journal)) _ refl e
+      ∙ ap (λ (w : Decoded). refused (lateTests k w journal)) d
 
-pub word-decides : (k : ℕ) (z p program journal : List ℕ) (x : Decoded) → startRefused k z p program journal ≡ 0 → decoded (wordNow program journal) ≡ x
-    → stepRefused k z p program journal ≡ first (wordTests k x journal) 0
-unfolding startRefused
-word-decides k z p program journal x e d =
-    step-tests k z p program journal
-    ∙ refused-later (startTests k z p program journal) tt (first (wordTests k (decoded (wordNow program journal)) journal) 0) _ refl e
-    ∙ ap (λ (y : Decoded). first (wordTests k y journal) 0) d
-
--- a refused step leaves both buffers as they stood
-pub step-stood : (k r : ℕ) (z p program journal : List ℕ) → r ≡ stepRefused k z p program journal → (r ≡ 0 → ⊥)
-    → (r ≡ stepRefused k z p program journal) × (z ≡ stepVectors k z p program journal) × (journal ≡ stepJournal k z p program journal)
-unfolding stepVectors stepJournal
-step-stood k r z p program journal e h = (e, kept _ r (executed (fieldsNow program journal) k z p) z e h, kept _ r (pushed k (fieldsNow program journal .d) (vectorOf k (fieldsNow program journal .d) z) journal) journal e h)
-
--- a word that is accepted: its entry decides, and what a step leaves goes by its fields
-pub record ByFields (k : ℕ) (z p program journal : List ℕ) (f : Fields) : Type 0 where
-  pub number : stepRefused k z p program journal ≡ entryRefused k journal
-  pub vectors : stepVectors k z p program journal ≡ unlessRefused (entryRefused k journal) (executed f k z p) z
-  pub entries : stepJournal k z p program journal ≡ unlessRefused (entryRefused k journal) (pushed k (f .d) (vectorOf k (f .d) z) journal) journal
-
-pub by-fields : (k : ℕ) (z p program journal : List ℕ) (f : Fields) → startRefused k z p program journal ≡ 0 → decoded (wordNow program journal) ≡ Word f
-    → ByFields k z p program journal f
-unfolding stepVectors stepJournal
-by-fields k z p program journal f e d =
-    let n : stepRefused k z p program journal ≡ entryRefused k journal = word-decides k z p program journal (Word f) e d in
-    record { number = n; vectors = rw (n, d); entries = rw (n, d) }
+  -- what is left past an accepted word is what the step leaves
+  pub word-performed : (f : Fields) (r : ℕ) (after : State) (bytes : List ℕ) → startRefused k s program journal ≡ 0 → decoded (wordNow program journal) ≡ Word f
+      → Performed f k s journal r after bytes → Stepped k s program journal r after bytes
+  unfolding stepState stepJournal
+  word-performed f r after bytes e d done =
+      let n : stepRefused k s program journal ≡ refused (fullTests k journal) = word-decides (Word f) e d in
+      record { answered = done .answered ∙ sym n; files = rw (n, d) (done .files); bytes = rw (n, d) (done .bytes) }
 
 -- a word that is neither UNKNOWN nor UNDEFINED is its fields
-pub word-of : (x : Decoded) → eqb (numberOf x) UNKNOWN ≡ false → eqb (numberOf x) UNDEFINED ≡ false → x ≡ Word (fieldsOf x)
+word-of : (x : Decoded) → eqb (numberOf x) UNKNOWN ≡ false → eqb (numberOf x) UNDEFINED ≡ false → x ≡ Word (fieldsOf x)
 word-of Unknown p q = cc
 word-of Undefined p q = cc
 word-of (Word f) p q = refl
 
 -- the words of a program are at most 256
-pub words-few : (n : ℕ) → isProgram n ≡ true → wordsOf n ≤ mostWords
+words-few : (n : ℕ) → isProgram n ≡ true → wordsOf n ≤ mostWords
 words-few n e = omega (arith, leb-true n (wordBytes * mostWords) (both-right (eqb (n % wordBytes) 0) _ e))
 
 -- what is known past the tests before the word
-pub record Started (k : ℕ) (z p program journal : List ℕ) : Type 0 where
-  pub files : Files k (length z) (length p)
+pub record Started (k : ℕ) (s : State) (program journal : List ℕ) : Type 0 where
+  pub sized : Sized k s
   pub formed : Formed k journal
-  pub inside : countOf journal < wordsOf (length program)
-  pub few : countOf journal < mostWords
+  pub inside : positionOf journal < wordsOf (length program)
+  pub few : heldOf journal < mostWords
 
-pub started : (k : ℕ) (z p program journal : List ℕ) → startRefused k z p program journal ≡ 0 → Started k z p program journal
+pub started : (k : ℕ) (s : State) (program journal : List ℕ) → startRefused k s program journal ≡ 0 → Started k s program journal
 unfolding startRefused
-started k z p program journal e =
-    let none = first-none (startTests k z p program journal) tt e in
-    let n = none .1 .1 in
-    let lies = leb-false (wordsOf (length program)) (countOf journal) (n .1 .1 .1 .0) in
+started k s program journal e =
+    let ends = endTests (length program) (positionOf journal) in
+    let files = none-refused (filesTests k (length (s .z)) (length (s .p))) tt (refused (programTests (length program) ++ journalTests k journal ++ ends)) e in
+    let words = none-refused (programTests (length program)) tt (refused (journalTests k journal ++ ends)) (files .1) in
+    let form = none-refused (journalTests k journal) tt (refused ends) (words .1) in
+    let lies = leb-false (wordsOf (length program)) (positionOf journal) (first-none ends tt (form .1) .0) in
     record {
-      files = files-of k (length z) (length p) (not-false _ (none .0)) (not-false _ (none .1 .0));
-      formed = formed-of k journal (not-false _ (n .1 .0)) (not-false _ (n .1 .1 .0));
+      sized = files-checked k (s .z) (s .p) _ refl (files .0);
+      formed = journal-checked k _ journal refl (form .0);
       inside = lies;
-      few = omega (arith, lies, words-few (length program) (not-false _ (n .0)));
+      few = omega (arith, lies, words-few (length program) (not-false _ (first-none (programTests (length program)) tt (words .0) .0)));
     }
 
--- what is known of an accepted step
-pub record Stepped (k : ℕ) (z p program journal : List ℕ) : Type 0 where
-  pub start : Started k z p program journal
+-- an accepted word executes
+pub executable : (k word : ℕ) (f : Fields) (s : State) → Sized k s → decoded word ≡ Word f → Executable f k s
+executable k word f s sized e = record { lent = sized; fields = decoded-in-range word f e }
+
+-- what is known of an accepted step, and what it leaves
+pub record AcceptedStep (k : ℕ) (s : State) (program journal : List ℕ) : Type 0 where
+  pub start : Started k s program journal
   pub word : decoded (wordNow program journal) ≡ Word (fieldsNow program journal)
-  pub room : countOf journal < capacity k (length journal)
+  pub room : heldOf journal < capacity k (length journal)
+  pub executes : Executable (fieldsNow program journal) k s
+  pub files : stepState k s program journal ≡ executed (fieldsNow program journal) k s
+  pub bytes : stepJournal k s program journal ≡ pushed k (entryFor k (fieldsNow program journal) s) journal
 
-pub stepped : (k : ℕ) (z p program journal : List ℕ) → stepRefused k z p program journal ≡ 0 → Stepped k z p program journal
-unfolding startRefused
-stepped k z p program journal e =
-    let none = none-refused (startTests k z p program journal) tt (first (wordTests k (decoded (wordNow program journal)) journal) 0) (sym (step-tests k z p program journal) ∙ e) in
-    let w = first-none (wordTests k (decoded (wordNow program journal)) journal) tt (none .1) in
+pub step-accepted : (k : ℕ) (s : State) (program journal : List ℕ) → stepRefused k s program journal ≡ 0 → AcceptedStep k s program journal
+unfolding startRefused stepState stepJournal
+step-accepted k s program journal e =
+    let word = decoded (wordNow program journal) in
+    let none = none-refused (startTests k s program journal) tt (refused (lateTests k word journal)) (sym (step-tests k s program journal) ∙ e) in
+    let late = first-none (lateTests k word journal) tt (none .1) in
+    let begun = started k s program journal (none .0) in
+    let known = word-of word (late .0) (late .1 .0) in
     record {
-      start = started k z p program journal (none .0);
-      word = word-of (decoded (wordNow program journal)) (w .0) (w .1 .0);
-      room = leb-false _ _ (w .1 .1 .0);
+      start = begun;
+      word = known;
+      room = leb-false _ _ (late .1 .1 .0);
+      executes = executable k (wordNow program journal) (fieldsNow program journal) s (begun .sized) known;
+      files = rw e;
+      bytes = rw e;
     }
-
--- an accepted word executes, and its destination keeps its size
-pub executable : (k word : ℕ) (f : Fields) (z p : List ℕ) → Files k (length z) (length p) → decoded word ≡ Word f → Executable f k z p
-executable k word f z p files e =
-    record {
-      legal = files .legal;
-      vectorSize = files .vectorBytes;
-      predicateSize = files .predicateBytes;
-      fields = decoded-in-range word f e;
-    }
-
--- what an accepted step leaves
-pub step-vectors : (k : ℕ) (z p program journal : List ℕ) → stepRefused k z p program journal ≡ 0
-    → stepVectors k z p program journal ≡ executed (fieldsNow program journal) k z p
-unfolding stepVectors
-step-vectors k z p program journal e = rw e
-
-pub step-journal : (k : ℕ) (z p program journal : List ℕ) → stepRefused k z p program journal ≡ 0
-    → stepJournal k z p program journal ≡ pushed k (fieldsNow program journal .d) (vectorOf k (fieldsNow program journal .d) z) journal
-unfolding stepJournal
-step-journal k z p program journal e = rw e
 
 -- what is known of an accepted step back, and what it leaves
-pub record Backed (k : ℕ) (z p journal : List ℕ) : Type 0 where
-  pub files : Files k (length z) (length p)
+pub record AcceptedBack (k : ℕ) (s : State) (journal : List ℕ) : Type 0 where
+  pub sized : Sized k s
   pub formed : Formed k journal
-  pub some : 0 < countOf journal
+  pub some : 0 < heldOf journal
+  pub files : backState k s journal ≡ restored k (lastEntry k journal) s
+  pub bytes : backJournal k s journal ≡ popped k journal
 
-pub backed : (k : ℕ) (z p journal : List ℕ) → backRefused k z p journal ≡ 0 → Backed k z p journal
-unfolding backRefused
-backed k z p journal e =
-    let none = first-none (backTests k z p journal) tt e in
-    let n = none .1 .1 in
+pub back-accepted : (k : ℕ) (s : State) (journal : List ℕ) → backRefused k s journal ≡ 0 → AcceptedBack k s journal
+unfolding backRefused backState backJournal
+back-accepted k s journal e =
+    let files = none-refused (filesTests k (length (s .z)) (length (s .p))) tt (refused (journalTests k journal ++ emptyTests journal)) e in
+    let form = none-refused (journalTests k journal) tt (refused (emptyTests journal)) (files .1) in
     record {
-      files = files-of k (length z) (length p) (not-false _ (none .0)) (not-false _ (none .1 .0));
-      formed = formed-of k journal (not-false _ (n .0)) (not-false _ (n .1 .0));
-      some = omega (arith, eqb-false (countOf journal) 0 (n .1 .1 .0));
+      sized = files-checked k (s .z) (s .p) _ refl (files .0);
+      formed = journal-checked k _ journal refl (form .0);
+      some = omega (arith, eqb-false (heldOf journal) 0 (first-none (emptyTests journal) tt (form .1) .0));
+      files = rw e;
+      bytes = rw e;
     }
 
-pub back-vectors : (k : ℕ) (z p journal : List ℕ) → backRefused k z p journal ≡ 0 → backVectors k z p journal ≡ restored k z journal
-unfolding backVectors
-back-vectors k z p journal e = rw e
+-- a refused step back leaves all as it stood
+pub back-stood : (k : ℕ) (s : State) (journal : List ℕ) (r : ℕ) → r ≡ backRefused k s journal → (r ≡ 0 → ⊥) → Backed k s journal r s journal
+unfolding backState backJournal
+back-stood k s journal r e h =
+    record {
+      answered = e;
+      files = kept _ r (restored k (lastEntry k journal) s) s e h;
+      bytes = kept _ r (popped k journal) journal e h;
+    }
 
-pub back-journal : (k : ℕ) (z p journal : List ℕ) → backRefused k z p journal ≡ 0 → backJournal k z p journal ≡ popped k journal
-unfolding backJournal
-back-journal k z p journal e = rw e
+-- and what an accepted one leaves
+pub back-taken : (k : ℕ) (s : State) (journal z-after after : List ℕ) → backRefused k s journal ≡ 0 → TakenBack k (s .z) journal z-after after
+    → Backed k s journal 0 (state z-after (s .p)) after
+unfolding backState backJournal
+back-taken k s journal z-after after e t =
+    record {
+      answered = sym e;
+      files = ap (λ (z : List ℕ). state z (s .p)) (t .vectors) ∙ left _ (restored k (lastEntry k journal) s) s e;
+      bytes = t .bytes ∙ left _ (popped k journal) journal e;
+    }
 
--- a refused step back leaves both buffers as they stood
-pub back-stood : (k r : ℕ) (z p journal : List ℕ) → r ≡ backRefused k z p journal → (r ≡ 0 → ⊥)
-    → (r ≡ backRefused k z p journal) × (z ≡ backVectors k z p journal) × (journal ≡ backJournal k z p journal)
-unfolding backVectors backJournal
-back-stood k r z p journal e h = (e, kept _ r (restored k z journal) z e h, kept _ r (popped k journal) journal e h)
+-- what a step and a step back ask of the code on entries
+pub can-append : (k : ℕ) (f : Fields) (s : State) (journal : List ℕ) → Ready f k s journal → heldOf journal < capacity k (length journal) → Append k (f .d) (s .z) journal
+can-append k f s journal ready room =
+    record {
+      register = in-files k (s .z) (s .p) Vector (f .d) (ready .word .lent) (ready .word .fields .d);
+      entry = record {
+        legal = legal-most k (ready .word .lent .legal);
+        few = omega (arith, ready .few);
+        inside = slot-inside k (length journal) (heldOf journal) (ready .header) room;
+      };
+    }
 
--- a journal with an entry is taken back
-pub back-accepted : (k : ℕ) (z p journal : List ℕ) → Files k (length z) (length p) → Formed k journal → 0 < countOf journal → backRefused k z p journal ≡ 0
+pub can-take-back : (k : ℕ) (s : State) (journal : List ℕ) → Sized k s → Formed k journal → 0 < heldOf journal → TakeBack k (s .z) journal
+can-take-back k s journal sized f some =
+    let named = named-all k (heldOf journal) journal (f .named) (heldOf journal - 1) (omega arith) in
+    record {
+      some = some;
+      last = record {
+        entry = record {
+          legal = legal-most k (sized .legal);
+          few = omega (arith, f .few);
+          inside = slot-inside k (length journal) (heldOf journal - 1) (f .least) (omega (arith, f .fits));
+        };
+        register = in-files k (s .z) (s .p) Vector (lastEntry k journal .number) sized (omega (arith, named));
+      };
+    }
+
+-- files of their sizes and a well-formed journal with an entry: nothing refuses
+pub back-accepts : (k : ℕ) (s : State) (journal : List ℕ) → Sized k s → Formed k journal → 0 < heldOf journal → backRefused k s journal ≡ 0
 unfolding backRefused
-back-accepted k z p journal f g some =
-    let no : eqb (countOf journal) 0 ≡ false = ne-eqb (countOf journal) 0 (λ (e : countOf journal ≡ 0). omega arith) in
-    rw (f .legal, eq-eqb _ _ (f .vectorBytes), eq-eqb _ _ (f .predicateBytes), formed-room k journal g, formed-journal k journal g, no)
+back-accepts k s journal f g some =
+    let no : eqb (heldOf journal) 0 ≡ false = ne-eqb (heldOf journal) 0 (λ (e : heldOf journal ≡ 0). omega arith) in
+    rw (f .legal, eq-eqb _ _ (f .vectorSize), eq-eqb _ _ (f .predicateSize), formed-room k journal g, formed-journal k journal g, no)

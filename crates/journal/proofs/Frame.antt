@@ -1,97 +1,89 @@
--- What a step and a step back leave alone, refused or not: every byte of the vector file outside one register, every byte of the journal
--- outside its count and one entry, and both sizes.
+-- What a step and a step back leave alone, refused or not: every byte of the vector file outside one register, the predicates, every byte of
+-- the journal outside its count and one entry, and all sizes.
 -- Assumes nothing.
-use Prim.Native.Nat.{ℕ, zero, suc, _+_, _-_, _≤_, _<_}
+use Prim.Native.Nat.{ℕ, zero, suc, _+_, _-_, _≤_}
 use mathlib.Core.Path.{_≡_, refl, sym, _∙_, ap}
-use mathlib.Core.List.{List, _∷_}
+use mathlib.Core.List.{List}
 use native.Mathlib.Omega.{arith}
 use lib.ListN.{length, getD, replicate, length-replicate}
-use Rattle.machine.specs.Size.{vectors as registers, vectorBytes, vectorAt, vectorOf, vectorFile}
-use Rattle.lanes.specs.Bytes.{bytesOf}
-use Rattle.lanes.proofs.Written.{length-bytes}
-use Rattle.adds.specs.Execute.{destinationAfter, withVector}
-use Rattle.adds.proofs.Parts.{length-destination}
-use Rattle.journal.specs.Layout.{headingBytes, countBytes, entryBytes, entryAt, countOf, entryNumber, entryOld, withEntry}
-use Rattle.journal.specs.Calls.{wordNow, fieldsNow, stepRefused, stepVectors, stepJournal, backRefused, backVectors, backJournal}
-use Rattle.journal.proofs.Part.{Outside, length-with, length-part, getD-outside}
-use Rattle.journal.proofs.Places.{entry-inside, names-all}
-use Rattle.journal.proofs.Vectors.{vector-inside, length-vector}
-use Rattle.journal.proofs.Pushed.{written, length-written}
-use Rattle.journal.proofs.Accepted.{stepped, executable, step-vectors, step-journal, step-stood, backed, back-vectors, back-journal, back-stood}
+use Rattle.parts.specs.Number.{bytesOf}
+use Rattle.parts.proofs.Numbers.{length-bytes}
+use Rattle.parts.proofs.Parts.{length-part, getD-outside}
+use Rattle.machine.specs.Size.{vectorBytes}
+use Rattle.registers.specs.declared.Kind.the-variants.{Vector}
+use Rattle.registers.specs.Register.{registerAt, InFile}
+use Rattle.registers.specs.State.{State}
+use Rattle.registers.proofs.Places.{register-inside, length-with-register}
+use Rattle.executes.specs.Execute.{destinationAfter}
+use Rattle.executes.proofs.Sizes.{length-destination}
+use Rattle.journal.specs.Layout.{countAt, countBytes, entryBytes, entryAt, heldOf, Entry, encodedEntry, lastEntry, withEntry}
+use Rattle.journal.specs.Calls.{fieldsNow, entryFor, restored, stepRefused, stepState, stepJournal, backRefused, backState, backJournal}
+use Rattle.journal.specs.Frame.{Kept}
+use Rattle.journal.proofs.Accepted.{step-accepted, step-stood, back-accepted, back-stood, can-take-back}
+use Rattle.journal.proofs.Written.{written, header, length-written, entry-room, entry-size}
+use Rattle.journal.proofs.Undone.{destination, step-room}
 
--- buffers that differ in register d and in entry i and the count only
-pub record Kept (k d i : ℕ) (z journal z-after journal-after : List ℕ) : Type 0 where
-  pub vectorSize : length z-after ≡ length z
-  pub journalSize : length journal-after ≡ length journal
-  pub vectors : (x : ℕ) → Outside (vectorAt k d) (vectorBytes k) x → getD z-after x 0 ≡ getD z x 0
-  pub entries : (x : ℕ) → Outside headingBytes countBytes x → Outside (entryAt k i) (entryBytes k) x → getD journal-after x 0 ≡ getD journal x 0
-
-kept-same : (k d i : ℕ) (z journal z-after journal-after : List ℕ) → z ≡ z-after → journal ≡ journal-after → Kept k d i z journal z-after journal-after
-kept-same k d i z journal z-after journal-after p q =
+kept-same : (k d i : ℕ) (s after : State) (journal journal-after : List ℕ) → s ≡ after → journal ≡ journal-after → Kept k d i s journal after journal-after
+kept-same k d i s after journal journal-after p q =
     record {
-      vectorSize = ap length (sym p);
+      vectorSize = ap (λ (t : State). length (t .z)) (sym p);
+      vectors = λ x h. ap (λ (t : State). getD (t .z) x 0) (sym p);
+      predicates = ap (λ (t : State). t .p) (sym p);
       journalSize = ap length (sym q);
-      vectors = λ x h. ap (λ (l : List ℕ). getD l x 0) (sym p);
       entries = λ x h g. ap (λ (l : List ℕ). getD l x 0) (sym q);
     }
 
-kept-written : (k d i n : ℕ) (z journal bytes e : List ℕ) → d < registers → length z ≡ vectorFile k → length bytes ≡ vectorBytes k
-    → entryAt k i + entryBytes k ≤ length journal → length e ≡ entryBytes k
-    → Kept k d i z journal (withVector k d bytes z) (written k i n e journal)
-kept-written k d i n z journal bytes e register file sized inside entry =
+-- a register written, and an entry with the count
+kept-written : (k i n : ℕ) (new : Entry) (s : State) (journal e : List ℕ) → InFile k Vector (new .number) (s .z) → length (new .old) ≡ vectorBytes k
+    → entryAt k journal i + entryBytes k ≤ length journal → length e ≡ entryBytes k
+    → Kept k (new .number) i s journal (restored k new s) (written k i n e journal)
+kept-written k i n new s journal e register sized inside entry =
     record {
-      vectorSize = length-with (vectorAt k d) (vectorBytes k) bytes z lies sized;
+      vectorSize = length-with-register k Vector (new .number) (s .z) register (new .old) sized;
+      vectors = getD-outside (registerAt k Vector (new .number)) (vectorBytes k) (new .old) (s .z) (register-inside k Vector (new .number) (s .z) register) sized;
+      predicates = refl;
       journalSize = length-written k i n e journal inside entry;
-      vectors = getD-outside (vectorAt k d) (vectorBytes k) bytes z lies sized;
       entries = λ x h g.
-          getD-outside headingBytes countBytes (bytesOf countBytes n) (withEntry k i e journal) header (length-bytes countBytes n) x h
-          ∙ getD-outside (entryAt k i) (entryBytes k) e journal inside entry x g;
+          getD-outside countAt countBytes (bytesOf countBytes n) (withEntry k i e journal) (header k i n e journal inside entry) (length-bytes countBytes n) x h
+          ∙ getD-outside (entryAt k journal i) (entryBytes k) e journal inside entry x g;
     }
-  where
-    lies : vectorAt k d + vectorBytes k ≤ length z
-    lies = vector-inside k d z register file
-
-    header : headingBytes + countBytes ≤ length (withEntry k i e journal)
-    header = omega (arith, inside, length-with (entryAt k i) (entryBytes k) e journal inside entry)
 
 -- a step changes its destination's bytes, the next entry and the count
-pub step-frame : (k : ℕ) (z p program journal : List ℕ)
-    → Kept k (fieldsNow program journal .d) (countOf journal) z journal (stepVectors k z p program journal) (stepJournal k z p program journal)
-step-frame k z p program journal = go (stepRefused k z p program journal) refl
+pub step-frame : (k : ℕ) (s : State) (program journal : List ℕ)
+    → Kept k (fieldsNow program journal .d) (heldOf journal) s journal (stepState k s program journal) (stepJournal k s program journal)
+step-frame k s program journal = go (stepRefused k s program journal) refl
   where
-    go : (r : ℕ) → stepRefused k z p program journal ≡ r
-        → Kept k (fieldsNow program journal .d) (countOf journal) z journal (stepVectors k z p program journal) (stepJournal k z p program journal)
+    go : (r : ℕ) → stepRefused k s program journal ≡ r
+        → Kept k (fieldsNow program journal .d) (heldOf journal) s journal (stepState k s program journal) (stepJournal k s program journal)
     go zero e =
-        let s = stepped k z p program journal e in
+        let a = step-accepted k s program journal e in
         let f = fieldsNow program journal in
-        let x = executable k (wordNow program journal) f z p (s .start .files) (s .word) in
-        rw (step-vectors k z p program journal e, step-journal k z p program journal e)
-        (kept-written k (f .d) (countOf journal) (countOf journal + 1) z journal (destinationAfter f k z p) (f .d ∷ vectorOf k (f .d) z) (x .fields .d) (x .vectorSize)
-        (length-destination f k z p x)
-        (entry-inside k (length journal) (countOf journal) (s .start .formed .least) (s .room))
-        (omega (arith, length-vector k (f .d) z (x .fields .d) (x .vectorSize))))
+        let entry = entryFor k f s in
+        let room = step-room k s program journal a in
+        rw (a .files, a .bytes)
+        (kept-written k (heldOf journal) (heldOf journal + 1) (record { number = f .d; old = destinationAfter f k s }) s journal (encodedEntry entry)
+        (destination f k s (a .executes))
+        (length-destination f k s (a .executes))
+        (entry-room k entry journal room)
+        (entry-size k entry journal room))
     go (suc r) e =
-        let s = step-stood k (suc r) z p program journal (sym e) (λ (h : suc r ≡ 0). omega arith) in
-        kept-same k (fieldsNow program journal .d) (countOf journal) z journal _ _ (s .1) (s .2)
+        let stood = step-stood k s program journal (suc r) (sym e) (λ (h : suc r ≡ 0). omega arith) in
+        kept-same k (fieldsNow program journal .d) (heldOf journal) s _ journal _ (stood .files) (stood .bytes)
 
 -- a step back changes the bytes of the register that the last entry names, that entry and the count
-pub back-frame : (k : ℕ) (z p journal : List ℕ)
-    → Kept k (entryNumber k (countOf journal - 1) journal) (countOf journal - 1) z journal (backVectors k z p journal) (backJournal k z p journal)
-back-frame k z p journal = go (backRefused k z p journal) refl
+pub back-frame : (k : ℕ) (s : State) (journal : List ℕ)
+    → Kept k (lastEntry k journal .number) (heldOf journal - 1) s journal (backState k s journal) (backJournal k s journal)
+back-frame k s journal = go (backRefused k s journal) refl
   where
-    go : (r : ℕ) → backRefused k z p journal ≡ r
-        → Kept k (entryNumber k (countOf journal - 1) journal) (countOf journal - 1) z journal (backVectors k z p journal) (backJournal k z p journal)
+    go : (r : ℕ) → backRefused k s journal ≡ r → Kept k (lastEntry k journal .number) (heldOf journal - 1) s journal (backState k s journal) (backJournal k s journal)
     go zero e =
-        let b = backed k z p journal e in
-        let last = countOf journal - 1 in
-        let inside = entry-inside k (length journal) last (b .formed .least) (omega (arith, b .some, b .formed .fits)) in
-        rw (back-vectors k z p journal e, back-journal k z p journal e)
-        (kept-written k (entryNumber k last journal) last last z journal (entryOld k last journal) (replicate (entryBytes k) 0)
-        (names-all k (countOf journal) journal (b .formed .names) last (omega (arith, b .some)))
-        (b .files .vectorBytes)
-        (length-part (entryAt k last + 1) (vectorBytes k) journal (omega (arith, inside)))
-        inside
+        let b = back-accepted k s journal e in
+        let t = can-take-back k s journal (b .sized) (b .formed) (b .some) .last in
+        rw (b .files, b .bytes)
+        (kept-written k (heldOf journal - 1) (heldOf journal - 1) (lastEntry k journal) s journal (replicate (entryBytes k) 0) (t .register)
+        (length-part (entryAt k journal (heldOf journal - 1) + 1) (vectorBytes k) journal (omega (arith, t .entry .inside)))
+        (t .entry .inside)
         (length-replicate (entryBytes k) 0))
     go (suc r) e =
-        let s = back-stood k (suc r) z p journal (sym e) (λ (h : suc r ≡ 0). omega arith) in
-        kept-same k (entryNumber k (countOf journal - 1) journal) (countOf journal - 1) z journal _ _ (s .1) (s .2)
+        let stood = back-stood k s journal (suc r) (sym e) (λ (h : suc r ≡ 0). omega arith) in
+        kept-same k (lastEntry k journal .number) (heldOf journal - 1) s _ journal _ (stood .files) (stood .bytes)

@@ -1,113 +1,118 @@
 -- What fresh, step and back answer, and what they leave in every lent buffer, for every input.
-use Prim.Native.Nat.{ℕ, _-_}
+use Prim.Native.Nat.{ℕ}
+use mathlib.Core.Path.{_≡_}
 use mathlib.Core.Bool.{not}
-use mathlib.Core.List.{List, [], _∷_}
+use mathlib.Core.List.{List, [], _∷_, _++_}
 use lib.Dec.{eqb, leb}
 use lib.ListN.{length}
-use Rattle.machine.specs.Size.{vectorOf}
-use Rattle.machine.specs.Refusal.{Test, ROOM, JOURNAL, UNKNOWN, UNDEFINED, FULL, EMPTY, refused, lengthTest, fileTest, programTest}
-use Rattle.pane.specs.Register.{unlessRefused}
-use Rattle.pane.specs.Word.{wordAt, endTest}
-use Rattle.words.specs.Decode.{decoded, numberOf, fieldsOf}
+use Rattle.machine.specs.Refusal.{Test, test, ROOM, JOURNAL, FULL, EMPTY, refused, lengthTests, filesTests, programTests, unlessRefused}
+use Rattle.registers.specs.declared.Kind.the-variants.{Vector}
+use Rattle.registers.specs.State.{State, read, write}
+use Rattle.programs.specs.Word.{wordAt, endTests}
+use Rattle.words.specs.Decode.{decoded, fieldsOf, wordTests}
 use Rattle.words.specs.declared.Fields.{Fields}
-use Rattle.adds.specs.Execute.{withVector, executed}
-use Rattle.journal.specs.Layout.{isRoom, isJournal, capacity, countOf, entryNumber, entryOld, freshJournal, pushed, popped}
+use Rattle.executes.specs.Execute.{executed}
+use Rattle.journal.specs.Layout.{isRoom, isJournal, capacity, heldOf, positionOf, Entry, lastEntry, freshJournal, pushed, popped}
 
 -- the journal's size is outside its limits
-abbrev pub roomTest : ℕ → Test
-roomTest n = (ROOM, not (isRoom n))
+abbrev pub roomTests : ℕ → List Test
+roomTests n = test ROOM (not (isRoom n)) ∷ []
 
--- the journal is not well formed
-abbrev pub journalTest : ℕ → List ℕ → Test
-journalTest k journal = (JOURNAL, not (isJournal k journal))
+-- nor is it well formed
+abbrev pub journalTests : ℕ → List ℕ → List Test
+journalTests k journal = roomTests (length journal) ++ test JOURNAL (not (isJournal k journal)) ∷ []
 
--- no row matches the word; its row does not allow its size
-abbrev pub unknownTest : ℕ → Test
-unknownTest word = (UNKNOWN, eqb (numberOf (decoded word)) UNKNOWN)
+-- no further entry fits
+abbrev pub fullTests : ℕ → List ℕ → List Test
+fullTests k journal = test FULL (leb (capacity k (length journal)) (heldOf journal)) ∷ []
 
-abbrev pub undefinedTest : ℕ → Test
-undefinedTest word = (UNDEFINED, eqb (numberOf (decoded word)) UNDEFINED)
+-- there is none to take back
+abbrev pub emptyTests : List ℕ → List Test
+emptyTests journal = test EMPTY (eqb (heldOf journal) 0) ∷ []
 
--- no further entry fits; there is none to take back
-abbrev pub fullTest : ℕ → List ℕ → Test
-fullTest k journal = (FULL, leb (capacity k (length journal)) (countOf journal))
+-- the tests of fresh
+abbrev pub freshTests : ℕ → List ℕ → List Test
+freshTests k journal = lengthTests k ++ roomTests (length journal)
 
-abbrev pub emptyTest : List ℕ → Test
-emptyTest journal = (EMPTY, eqb (countOf journal) 0)
-
--- fresh: LENGTH, ROOM or DONE, and the journal that it leaves; with a refusal every buffer is as it stood
-abbrev pub freshRefused : ℕ → List ℕ → ℕ
-freshRefused k journal = refused (lengthTest k ∷ roomTest (length journal) ∷ [])
-
-abbrev pub freshAfter : ℕ → List ℕ → List ℕ
-freshAfter k journal = unlessRefused (freshRefused k journal) (freshJournal k (length journal)) journal
-
--- the word at the position, which is the count
+-- the word at the position, and its fields
 abbrev pub wordNow : List ℕ → List ℕ → ℕ
-wordNow program journal = wordAt program (countOf journal)
+wordNow program journal = wordAt program (positionOf journal)
 
--- the fields of that word
 abbrev pub fieldsNow : List ℕ → List ℕ → Fields
 fieldsNow program journal = fieldsOf (decoded (wordNow program journal))
 
--- the refusal of a step before its word is read, and past that of its entry: FULL or DONE
-unfoldable pub startRefused : ℕ → List ℕ → List ℕ → List ℕ → List ℕ → ℕ
-startRefused k z p program journal =
-    refused
-    (lengthTest k
-    ∷ fileTest k (length z) (length p)
-    ∷ programTest (length program)
-    ∷ roomTest (length journal)
-    ∷ journalTest k journal
-    ∷ endTest (length program) (countOf journal)
-    ∷ [])
+-- the tests of a step before its word is read, and all of them
+abbrev pub startTests : ℕ → State → List ℕ → List ℕ → List Test
+startTests k s program journal =
+    filesTests k (length (s .z)) (length (s .p))
+    ++ programTests (length program)
+    ++ journalTests k journal
+    ++ endTests (length program) (positionOf journal)
 
-abbrev pub entryRefused : ℕ → List ℕ → ℕ
-entryRefused k journal = refused (fullTest k journal ∷ [])
+abbrev pub stepTests : ℕ → State → List ℕ → List ℕ → List Test
+stepTests k s program journal = startTests k s program journal ++ wordTests (decoded (wordNow program journal)) ++ fullTests k journal
 
--- step: its refusal, and the vector file and the journal that it leaves
-unfoldable pub stepRefused : ℕ → List ℕ → List ℕ → List ℕ → List ℕ → ℕ
-stepRefused k z p program journal =
-    refused
-    (lengthTest k
-    ∷ fileTest k (length z) (length p)
-    ∷ programTest (length program)
-    ∷ roomTest (length journal)
-    ∷ journalTest k journal
-    ∷ endTest (length program) (countOf journal)
-    ∷ unknownTest (wordNow program journal)
-    ∷ undefinedTest (wordNow program journal)
-    ∷ fullTest k journal
-    ∷ [])
+-- the tests of back
+abbrev pub backTests : ℕ → State → List ℕ → List Test
+backTests k s journal = filesTests k (length (s .z)) (length (s .p)) ++ journalTests k journal ++ emptyTests journal
 
-unfoldable pub stepVectors : ℕ → List ℕ → List ℕ → List ℕ → List ℕ → List ℕ
-stepVectors k z p program journal =
-    unlessRefused (stepRefused k z p program journal) (executed (fieldsNow program journal) k z p) z
+-- the refusals of the calls, and of a step before its word is read
+abbrev pub freshRefused : ℕ → List ℕ → ℕ
+freshRefused k journal = refused (freshTests k journal)
 
-unfoldable pub stepJournal : ℕ → List ℕ → List ℕ → List ℕ → List ℕ → List ℕ
-stepJournal k z p program journal =
-    unlessRefused (stepRefused k z p program journal)
-    (pushed k (fieldsNow program journal .d) (vectorOf k (fieldsNow program journal .d) z) journal)
-    journal
+unfoldable pub startRefused : ℕ → State → List ℕ → List ℕ → ℕ
+startRefused k s program journal = refused (startTests k s program journal)
 
--- the vector file with the last entry's bytes in the register that it names
-abbrev pub restored : ℕ → List ℕ → List ℕ → List ℕ
-restored k z journal =
-    withVector k (entryNumber k (countOf journal - 1) journal) (entryOld k (countOf journal - 1) journal) z
+unfoldable pub stepRefused : ℕ → State → List ℕ → List ℕ → ℕ
+stepRefused k s program journal = refused (stepTests k s program journal)
 
--- back: its refusal, and the vector file and the journal that it leaves
-unfoldable pub backRefused : ℕ → List ℕ → List ℕ → List ℕ → ℕ
-backRefused k z p journal =
-    refused
-    (lengthTest k
-    ∷ fileTest k (length z) (length p)
-    ∷ roomTest (length journal)
-    ∷ journalTest k journal
-    ∷ emptyTest journal
-    ∷ [])
+unfoldable pub backRefused : ℕ → State → List ℕ → ℕ
+backRefused k s journal = refused (backTests k s journal)
 
-unfoldable pub backVectors : ℕ → List ℕ → List ℕ → List ℕ → List ℕ
-backVectors k z p journal = unlessRefused (backRefused k z p journal) (restored k z journal) z
+-- the entry of a word: its destination's number, and its bytes as they stand
+abbrev pub entryFor : ℕ → Fields → State → Entry
+entryFor k f s = record { number = f .d; old = read k Vector (f .d) s }
 
-unfoldable pub backJournal : ℕ → List ℕ → List ℕ → List ℕ → List ℕ
-backJournal k z p journal = unlessRefused (backRefused k z p journal) (popped k journal) journal
+-- the state with an entry's bytes in the register that it names
+abbrev pub restored : ℕ → Entry → State → State
+restored k e s = write k Vector (e .number) (e .old) s
+
+-- what the calls leave; with a refusal all is as it stood
+abbrev pub freshAfter : ℕ → List ℕ → List ℕ
+freshAfter k journal = unlessRefused (freshRefused k journal) (freshJournal k (length journal)) journal
+
+unfoldable pub stepState : ℕ → State → List ℕ → List ℕ → State
+stepState k s program journal = unlessRefused (stepRefused k s program journal) (executed (fieldsNow program journal) k s) s
+
+unfoldable pub stepJournal : ℕ → State → List ℕ → List ℕ → List ℕ
+stepJournal k s program journal =
+    unlessRefused (stepRefused k s program journal) (pushed k (entryFor k (fieldsNow program journal) s) journal) journal
+
+unfoldable pub backState : ℕ → State → List ℕ → State
+backState k s journal = unlessRefused (backRefused k s journal) (restored k (lastEntry k journal) s) s
+
+unfoldable pub backJournal : ℕ → State → List ℕ → List ℕ
+backJournal k s journal = unlessRefused (backRefused k s journal) (popped k journal) journal
+
+-- a fresh journal's contract: the answer, and the journal that is left
+pub record Freshened (k : ℕ) (journal : List ℕ) (r : ℕ) (after : List ℕ) : Type 0 where
+  pub answered : r ≡ freshRefused k journal
+  pub bytes : after ≡ freshAfter k journal
+
+-- a contract on both files and a journal: the answer, the state that is left, and the journal
+pub record Leaves (number : ℕ) (s : State) (entries : List ℕ) (r : ℕ) (after : State) (journal : List ℕ) : Type 0 where
+  pub answered : r ≡ number
+  pub files : after ≡ s
+  pub bytes : journal ≡ entries
+
+-- of a step, of back, and of a step past its word, which only the room for its entry refuses
+abbrev pub Stepped : ℕ → State → List ℕ → List ℕ → ℕ → State → List ℕ → Type 0
+Stepped k s program journal = Leaves (stepRefused k s program journal) (stepState k s program journal) (stepJournal k s program journal)
+
+abbrev pub Backed : ℕ → State → List ℕ → ℕ → State → List ℕ → Type 0
+Backed k s journal = Leaves (backRefused k s journal) (backState k s journal) (backJournal k s journal)
+
+abbrev pub Performed : Fields → ℕ → State → List ℕ → ℕ → State → List ℕ → Type 0
+Performed f k s journal =
+    Leaves (refused (fullTests k journal)) (unlessRefused (refused (fullTests k journal)) (executed f k s) s)
+    (unlessRefused (refused (fullTests k journal)) (pushed k (entryFor k f s) journal) journal)

@@ -1,4 +1,4 @@
 pub mod Layout
 pub mod Calls
-pub mod Walk
 pub mod Needs
+pub mod Frame

@@ -1,34 +1,61 @@
--- What the code on parts asks of its caller.
+-- What the code on parts asks of its caller, and what the code on entries leaves.
 use Prim.Native.Nat.{ℕ, _+_, _-_, _≤_, _<_}
 use mathlib.Core.Path.{_≡_}
 use mathlib.Core.List.{List}
 use lib.ListN.{length}
-use Rattle.machine.specs.Size.{mostLength, mostWords, vectors, vectorFile}
+use Rattle.machine.specs.Size.{mostLength, mostWords}
+use Rattle.registers.specs.declared.Kind.the-variants.{Vector}
+use Rattle.registers.specs.Register.{InFile, withVector}
+use Rattle.registers.specs.State.{State}
 use Rattle.words.specs.declared.Fields.{Fields}
-use Rattle.adds.specs.Needs.{Executable}
-use Rattle.journal.specs.Layout.{headerBytes, entryBytes, entryAt, countOf, entryNumber}
+use Rattle.executes.specs.Needs.{Executable}
+use Rattle.journal.specs.declared.layout.Layout.{Layout}
+use Rattle.journal.specs.Layout.{headerBytes, entryBytes, capacity, entryAt, heldOf, entryIn, lastEntry, popped}
+
+-- two layouts are the same
+pub record SameLayout (a b : Layout) : Type 0 where
+  pub header : a .header ≡ b .header
+  pub greatest : a .greatest ≡ b .greatest
+
+-- a journal with its header, at a length
+pub record Headed (k : ℕ) (journal : List ℕ) : Type 0 where
+  pub legal : k ≤ mostLength
+  pub header : headerBytes ≤ length journal
+
+-- the first n entries fit
+pub record Fits (k n : ℕ) (journal : List ℕ) : Type 0 where
+  pub headed : Headed k journal
+  pub few : n ≤ mostWords
+  pub fits : n ≤ capacity k (length journal)
 
 -- entry i lies inside a journal
 pub record EntryInside (k i : ℕ) (journal : List ℕ) : Type 0 where
   pub legal : k ≤ mostLength
   pub few : i ≤ mostWords
-  pub inside : entryAt k i + entryBytes k ≤ length journal
+  pub inside : entryAt k journal i + entryBytes k ≤ length journal
 
--- a vector file, a register of it, and a journal that has room for an entry
+-- a register, and a journal that has room for an entry
 pub record Append (k d : ℕ) (z journal : List ℕ) : Type 0 where
-  pub file : length z ≡ vectorFile k
-  pub register : d < vectors
-  pub entry : EntryInside k (countOf journal) journal
+  pub register : InFile k Vector d z
+  pub entry : EntryInside k (heldOf journal) journal
 
--- a vector file, and a journal whose last entry names a register
+-- an entry inside a journal that names a register of a file
+pub record Restorable (k i : ℕ) (z journal : List ℕ) : Type 0 where
+  pub entry : EntryInside k i journal
+  pub register : InFile k Vector (entryIn k journal i .number) z
+
+-- a journal with entries, the last of which names a register
 pub record TakeBack (k : ℕ) (z journal : List ℕ) : Type 0 where
-  pub file : length z ≡ vectorFile k
-  pub some : 0 < countOf journal
-  pub register : entryNumber k (countOf journal - 1) journal < vectors
-  pub entry : EntryInside k (countOf journal - 1) journal
+  pub some : 0 < heldOf journal
+  pub last : Restorable k (heldOf journal - 1) z journal
 
--- a word that executes, and a well-formed journal with the position of a word
-pub record Ready (f : Fields) (k : ℕ) (z p journal : List ℕ) : Type 0 where
-  pub word : Executable f k z p
+-- the last entry's bytes in their register, and the journal without it
+pub record TakenBack (k : ℕ) (z journal z-after journal-after : List ℕ) : Type 0 where
+  pub vectors : z-after ≡ withVector k (lastEntry k journal .number) (lastEntry k journal .old) z
+  pub bytes : journal-after ≡ popped k journal
+
+-- a word that executes, and a journal with its header and the position of a word
+pub record Ready (f : Fields) (k : ℕ) (s : State) (journal : List ℕ) : Type 0 where
+  pub word : Executable f k s
   pub header : headerBytes ≤ length journal
-  pub few : countOf journal < mostWords
+  pub few : heldOf journal < mostWords

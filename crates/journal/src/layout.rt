@@ -1,34 +1,50 @@
-// The journal's bytes: mark, version, k and count, then entries of a destination number and the register's old bytes.
+// The journal's bytes: mark, version, k and count, then entries of a register's number and its old bytes.
 ghost use mathlib.Core.Path.{_≡_};
-ghost use mathlib.Core.List.{[], _∷_};
-ghost use Prim.Native.Nat.{_≤_, _<_};
+ghost use Prim.Native.Nat.{_≤_};
 ghost use lib.ListN.{length, take};
-ghost use Rattle.machine.specs.Size.{mostLength, mostWords, vectors, vectorOf, vectorFile};
+ghost use Rattle.parts.specs.Part.{sameBytes};
+ghost use Rattle.machine.specs.Size.{mostLength, mostWords};
 ghost use Rattle.machine.specs.Refusal.{refused};
-ghost use Rattle.journal.specs.Layout.{heading as headingOf, headingBytes, headerBytes, entryBytes, capacity as capacityOf, entryAt, countOf, withCount, freshJournal, isRoom, isJournal, entriesName, sameBytes};
-ghost use Rattle.journal.specs.Calls.{roomTest, journalTest};
+ghost use Rattle.journal.specs.Layout.{heading as headingOf, version, countAt, layoutOf, headerBytes, entryBytes, capacity as capacityOf, slotAt, withCount, heldOf, positionOf, freshJournal, isJournal, areNamed, firstEntries};
+ghost use Rattle.journal.specs.Calls.{roomTests, journalTests};
+ghost use Rattle.journal.specs.Needs.{SameLayout, Headed, Fits};
 use machine::Length;
 use machine::refusal;
 
-// The mark, and the version's two bytes.
+// What a version of the journal has: the bytes before its entries, and the greatest number of an entry.
+pub struct Layout {
+    pub header: usize,
+    pub greatest: usize,
+}
+
+// The mark, and the version that is written and read.
 pub const MARK: [u8; 3] = [76, 78, 74];
 
-pub const VERSION: [u8; 2] = [1, 0];
+pub const VERSION: usize = 1;
 
-// The bytes before the count, of the count, before the entries, and of the largest journal.
-pub const HEADING: usize = 6;
+// Where the count stands, its bytes, and the bytes of the largest journal.
+pub const COUNT_AT: usize = 6;
 
 pub const COUNT: usize = 2;
 
-pub const HEADER: usize = HEADING + COUNT;
-
 pub const MOST: usize = 65536;
+
+// The layout of a version: there is one.
+pub fn layout_of(number: usize) -> Layout
+    ensures { λ r. ⌜ SameLayout r (layoutOf number) ⌝ }
+{
+    Layout {
+        header: COUNT_AT + COUNT,
+        greatest: Length::VECTORS - 1,
+    }
+}
 
 // The refusal of a journal's size: ROOM or DONE.
 pub fn check_room(journal: &[u8]) -> u8
-    ensures { λ r. ⌜ r ≡ refused (roomTest (length (now (journal .entry))) ∷ []) ⌝ }
+    ensures { λ r. ⌜ r ≡ refused (roomTests (length (now (journal .entry)))) ⌝ }
 {
-    if journal.len() < HEADER {
+    let layout = layout_of(VERSION);
+    if journal.len() < layout.header {
         return refusal::ROOM;
     }
     if MOST < journal.len() {
@@ -50,23 +66,33 @@ pub(crate) fn capacity(k: usize, bytes: usize) -> usize
     requires { ⌜ (k ≤ mostLength) × (headerBytes ≤ bytes) ⌝ }
     ensures { λ r. ⌜ r ≡ capacityOf k bytes ⌝ }
 {
-    (bytes - HEADER) / entry_bytes(k)
+    let layout = layout_of(VERSION);
+    (bytes - layout.header) / entry_bytes(k)
 }
 
-// Where entry i starts.
-pub(crate) fn entry_at(k: usize, i: usize) -> usize
-    requires { ⌜ (k ≤ mostLength) × (i ≤ mostWords) ⌝ }
-    ensures { λ r. ⌜ r ≡ entryAt k i ⌝ }
+// Where a slot starts.
+pub(crate) fn slot_at(k: usize, slot: usize) -> usize
+    requires { ⌜ (k ≤ mostLength) × (slot ≤ mostWords) ⌝ }
+    ensures { λ r. ⌜ r ≡ slotAt k slot ⌝ }
 {
-    HEADER + i * entry_bytes(k)
+    let layout = layout_of(VERSION);
+    layout.header + slot * entry_bytes(k)
 }
 
-// The count of entries, which is the lane of two bytes after the heading.
-pub(crate) fn count_of(journal: &[u8]) -> usize
+// How many entries a journal holds: the number in the two bytes of its count.
+pub(crate) fn held_of(journal: &[u8]) -> usize
     requires { ⌜ headerBytes ≤ length (now journal) ⌝ }
-    ensures { λ r. ⌜ r ≡ countOf (now (journal .entry)) ⌝ }
+    ensures { λ r. ⌜ r ≡ heldOf (now (journal .entry)) ⌝ }
 {
-    lanes::lane(journal, COUNT, HEADING / COUNT) as usize
+    parts::number_at(journal, COUNT_AT, COUNT) as usize
+}
+
+// The position: the place of the next step's word.
+pub(crate) fn position_of(journal: &[u8]) -> usize
+    requires { ⌜ headerBytes ≤ length (now journal) ⌝ }
+    ensures { λ r. ⌜ r ≡ positionOf (now (journal .entry)) ⌝ }
+{
+    held_of(journal)
 }
 
 // Writes the count.
@@ -74,35 +100,38 @@ pub(crate) fn put_count(journal: &mut [u8], n: usize)
     requires { ⌜ headerBytes ≤ length (now journal) ⌝ }
     ensures { λ _. ⌜ now (journal .exit) ≡ withCount n (now (journal .entry)) ⌝ }
 {
-    lanes::put_lane(journal, COUNT, HEADING / COUNT, n as u64);
+    parts::put_number(journal, COUNT_AT, COUNT, n as u64);
 }
 
 // What stands before the count: the mark, the version and k.
 pub(crate) fn heading(k: usize) -> [u8; 6]
     requires { ⌜ k ≤ mostLength ⌝ }
-    ensures { λ r. ⌜ r ≡ headingOf k ⌝ }
+    ensures { λ r. ⌜ r ≡ headingOf version k ⌝ }
 {
-    [MARK[0], MARK[1], MARK[2], VERSION[0], VERSION[1], k as u8]
+    let low = (VERSION % 256) as u8;
+    let high = (VERSION / 256) as u8;
+    [MARK[0], MARK[1], MARK[2], low, high, k as u8]
 }
 
 // Whether mark, version and k agree.
 pub(crate) fn has_heading(k: usize, journal: &[u8]) -> bool
-    requires { ⌜ (k ≤ mostLength) × (headerBytes ≤ length (now journal)) ⌝ }
-    ensures { λ r. ⌜ r ≡ sameBytes (take headingBytes (now (journal .entry))) (headingOf k) ⌝ }
+    requires { ⌜ Headed k (now journal) ⌝ }
+    ensures { λ r. ⌜ r ≡ sameBytes (take countAt (now (journal .entry))) (headingOf version k) ⌝ }
 {
     let heading = heading(k);
-    check::same(&journal[..HEADING], &heading)
+    check::same(&journal[..COUNT_AT], &heading)
 }
 
-// Whether the first n entries name registers.
-pub(crate) fn entries_name(k: usize, journal: &[u8], n: usize) -> bool
-    requires { ⌜ (k ≤ mostLength) × (n ≤ mostWords) × (headerBytes ≤ length (now journal)) × (n ≤ capacityOf k (length (now journal))) ⌝ }
-    ensures { λ r. ⌜ r ≡ entriesName k n (now (journal .entry)) ⌝ }
+// Whether the first n entries have numbers that entries may have.
+pub(crate) fn are_named(k: usize, journal: &[u8], n: usize) -> bool
+    requires { ⌜ Fits k n (now journal) ⌝ }
+    ensures { λ r. ⌜ r ≡ areNamed (firstEntries k (now (journal .entry)) n) ⌝ }
 {
+    let layout = layout_of(VERSION);
     let mut i = 0;
     while i < n {
-        let at = entry_at(k, i);
-        if Length::VECTORS <= journal[at] as usize {
+        let at = slot_at(k, i);
+        if layout.greatest < journal[at] as usize {
             return false;
         }
         i += 1;
@@ -112,26 +141,26 @@ pub(crate) fn entries_name(k: usize, journal: &[u8], n: usize) -> bool
 
 // Whether a journal is well formed.
 pub(crate) fn is_journal(k: usize, journal: &[u8]) -> bool
-    requires { ⌜ (k ≤ mostLength) × (headerBytes ≤ length (now journal)) ⌝ }
+    requires { ⌜ Headed k (now journal) ⌝ }
     ensures { λ r. ⌜ r ≡ isJournal k (now (journal .entry)) ⌝ }
 {
     if !has_heading(k, journal) {
         return false;
     }
-    let count = count_of(journal);
-    if Length::MOST_WORDS < count {
+    let held = held_of(journal);
+    if Length::MOST_WORDS < held {
         return false;
     }
-    if capacity(k, journal.len()) < count {
+    if capacity(k, journal.len()) < held {
         return false;
     }
-    entries_name(k, journal, count)
+    are_named(k, journal, held)
 }
 
 // The refusal of a journal: ROOM, JOURNAL or DONE.
 pub(crate) fn check_journal(k: usize, journal: &[u8]) -> u8
     requires { ⌜ k ≤ mostLength ⌝ }
-    ensures { λ r. ⌜ r ≡ refused (roomTest (length (now (journal .entry))) ∷ journalTest k (now (journal .entry)) ∷ []) ⌝ }
+    ensures { λ r. ⌜ r ≡ refused (journalTests k (now (journal .entry))) ⌝ }
 {
     let room = check_room(journal);
     if room != refusal::DONE {
@@ -146,10 +175,10 @@ pub(crate) fn check_journal(k: usize, journal: &[u8]) -> u8
 
 // Writes a fresh journal's bytes.
 pub(crate) fn put_fresh(k: usize, journal: &mut [u8])
-    requires { ⌜ (k ≤ mostLength) × (headerBytes ≤ length (now journal)) ⌝ }
+    requires { ⌜ Headed k (now journal) ⌝ }
     ensures { λ _. ⌜ now (journal .exit) ≡ freshJournal k (length (now (journal .entry))) ⌝ }
 {
-    lanes::clear(journal);
+    parts::clear(journal);
     let heading = heading(k);
     bytes::copy(&heading, journal);
 }

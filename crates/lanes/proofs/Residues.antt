@@ -2,16 +2,16 @@
 -- read at their sign give back every integer that fits; extension to more digits keeps the integer.
 -- An integer is its part above zero less its part below; modulo M the part below counts M − 1 times.
 -- Assumes nothing.
-use Prim.Native.Nat.{ℕ, zero, suc, _+_, _*_, _-_, _/_, _%_, _^_, _≤_, _<_}
-use mathlib.Core.Path.{_≡_, refl, sym, _∙_, ap, subst}
+use Prim.Native.Nat.{ℕ, suc, _+_, _*_, _-_, _/_, _%_, _^_, _≤_, _<_}
+use mathlib.Core.Path.{_≡_, refl, sym, _∙_, ap}
 use mathlib.Core.Bool.{Bool, true, false, cond, not}
-use native.Mathlib.Nat.{mod-eq-of-lt, mod-lt, add-mod, add-mul-mod-self-left, mul-add, add-mul, mul-one, one-mul, mod-add-div', add-assoc, add-zero, zero-add, mul-zero, sub-add-cancel, mul-comm, mul-assoc, suc-mul, mul-suc, pow-suc}
+use native.Mathlib.Nat.{mod-eq-of-lt, mod-lt, add-mod, add-mul-mod-self-left, mul-add, one-mul, mod-add-div', mul-zero, mul-comm, suc-mul, mul-suc, pow-suc}
 use native.Mathlib.Omega.{arith}
-use lib.Dec.{T, ltb, ltb→lt, nltb→le, leb}
+use lib.Dec.{T, ltb, ltb→lt, nltb→le}
 use lib.Pow.{pow-pos, pow-mono, pow-lt}
 use lib.IntN.{ℤ, pos, negsuc, subℕ, _+ℤ_, natAbs}
-use borrow.Author.Tests.{lt-ltb, le-ltb, le-leb, lt-leb, leb-true, leb-false}
-use Rattle.machine.specs.Size.{both}
+use borrow.Author.Tests.{lt-ltb, le-leb, lt-leb, leb-true, leb-false}
+use Rattle.parts.specs.Part.{both}
 use Rattle.lanes.specs.Integer.{isNegative, integer, residue, FitsAt}
 
 -- a difference of naturals is a natural or its negative

@@ -3,22 +3,19 @@
 -- Assumes nothing.
 use Prim.Native.Nat.{ℕ, zero, suc, _+_, _*_, _-_, _/_, _%_, _^_, _≤_, _<_}
 use mathlib.Core.Path.{_≡_, refl, sym, _∙_, ap, ap₂}
-use mathlib.Core.List.{List, [], _∷_, _++_, append-assoc, append-nil}
-use native.Mathlib.Nat.{add-zero, zero-mul, suc-mul, mul-zero, mul-suc, pow-suc, mod-add-div', mod-eq-of-lt, mod-mod-of-dvd, dvd-mul-left, add-suc, suc-add, mul-comm, mod-lt, add-comm, zero-add, add-mul, div-lt-iff-lt-mul, le-dest, mod-one, not-suc-le-zero, le-of-suc-le-suc, sub-zero, zero-sub, suc-sub-suc}
+use mathlib.Core.List.{List, _++_, append-assoc, append-nil}
+use native.Mathlib.Nat.{add-zero, zero-mul, suc-mul, mod-add-div', mod-mod-of-dvd, dvd-mul-left, mul-comm, mod-lt, add-comm, zero-add, add-mul, div-lt-iff-lt-mul, le-dest, not-suc-le-zero, le-of-suc-le-suc, sub-zero, sub-self, sub-add-eq}
+use native.Mathlib.Numerals.{add-one}
 use native.Mathlib.Omega.{arith}
-use lib.ListN.{length, take, drop, replicate, length-append}
-use lib.Pow.{pow-add, pow-pos, field}
+use lib.ListN.{length, drop, replicate, length-append, length-replicate}
+use lib.Pow.{pow-add, pow-pos}
 use lib.Arith.{digits-mod}
-use lib.Seq.{take-at, drop-at, drop-append-add, drop-drop, take-append-add}
+use lib.Seq.{take-at, drop-at, drop-append-add, drop-drop}
 use lib.IntN.{ℤ, pos, negsuc}
-use Rattle.lanes.specs.Bytes.{number, bytesOf}
-use Rattle.lanes.specs.Lane.{lane, withLane, fromLanes, bitsOf}
+use Rattle.parts.specs.Number.{bytesOf, bitsOf}
+use Rattle.parts.proofs.Numbers.{length-bytes, bytes-modulo, number-bytes, drop-replicate}
+use Rattle.lanes.specs.Lane.{lane, withLane, fromLanes}
 use Rattle.lanes.specs.Integer.{residue}
-
--- w bytes are w bytes
-pub length-bytes : (w n : ℕ) → length (bytesOf w n) ≡ w
-length-bytes zero n = refl
-length-bytes (suc w) n = ap suc (length-bytes w (n / 256))
 
 -- n lanes of w bytes are n·w bytes
 pub length-lanes : (w e n : ℕ) (f : ℕ → ℕ) → length (fromLanes w e n f) ≡ n * w
@@ -26,20 +23,6 @@ length-lanes w e zero f = sym (zero-mul w)
 length-lanes w e (suc n) f =
     length-append (bytesOf w (f e)) (fromLanes w (suc e) n f)
     ∙ omega (arith, length-bytes w (f e), length-lanes w (suc e) n f, suc-mul n w)
-
--- the low w bytes of a number do not see what stands above 2^(8w)
-pub bytes-modulo : (w d n : ℕ) → bytesOf w (n % 2 ^ (bitsOf w + d)) ≡ bytesOf w n
-bytes-modulo zero d n = refl
-bytes-modulo (suc w) d n = ap₂ _∷_ low (ap (bytesOf w) high ∙ bytes-modulo w d (n / 256))
-  where
-    digits : bitsOf (suc w) + d ≡ (bitsOf w + d) + 8
-    digits = omega (arith, mul-suc 8 w)
-
-    low : n % 2 ^ (bitsOf (suc w) + d) % 256 ≡ n % 256
-    low = rw (digits, pow-add 2 (bitsOf w + d) 8) (mod-mod-of-dvd 256 {b = 2 ^ (bitsOf w + d) * 256} n (dvd-mul-left 256 (2 ^ (bitsOf w + d))))
-
-    high : n % 2 ^ (bitsOf (suc w) + d) / 256 ≡ n / 256 % 2 ^ (bitsOf w + d)
-    high = rw digits (field n (bitsOf w + d) 8)
 
 -- one lane more
 pub lanes-snoc : (w e n : ℕ) (f : ℕ → ℕ) → fromLanes w e (suc n) f ≡ fromLanes w e n f ++ bytesOf w (f (e + n))
@@ -88,22 +71,6 @@ bytes-residue w h z =
     ∙ ap (λ (k : ℕ). bytesOf w (residue 64 z % 2 ^ k)) (sym (add-zero (bitsOf w)))
     ∙ bytes-modulo w 0 (residue 64 z)
 
--- the number that a number's low bytes make
-pub number-bytes : (w n : ℕ) → number (bytesOf w n) ≡ n % 2 ^ bitsOf w
-number-bytes zero n = sym (mod-one n)
-number-bytes (suc w) n =
-    rw (number-bytes w (n / 256), digits, pow-add 2 (bitsOf w) 8)
-    (sym (omega (arith, mod-add-div' (n % (2 ^ bitsOf w * 256)) 256, low, high)))
-  where
-    digits : bitsOf (suc w) ≡ bitsOf w + 8
-    digits = mul-suc 8 w
-
-    low : n % (2 ^ bitsOf w * 256) % 256 ≡ n % 256
-    low = mod-mod-of-dvd 256 {b = 2 ^ bitsOf w * 256} n (dvd-mul-left 256 (2 ^ bitsOf w))
-
-    high : n % (2 ^ bitsOf w * 256) / 256 ≡ n / 256 % 2 ^ bitsOf w
-    high = rw (← pow-add 2 (bitsOf w) 8) (field n (bitsOf w) 8)
-
 -- writing the next lane behind those that stand there
 pub write-next : (w e v : ℕ) (f : ℕ → ℕ) (rest : List ℕ) → bytesOf w v ≡ bytesOf w (f e)
     → withLane w e v (fromLanes w 0 e f ++ rest) ≡ fromLanes w 0 (suc e) f ++ drop w rest
@@ -132,8 +99,37 @@ read-lane w e (suc n) (suc i) f rest h =
     )
     (read-lane w (suc e) n i f rest (le-of-suc-le-suc h) ∙ ap (λ (k : ℕ). f k % 2 ^ bitsOf w) (omega arith))
 
--- a run of one value without its first elements
-pub drop-replicate : (m n a : ℕ) → drop m (replicate n a) ≡ replicate (n - m) a
-drop-replicate zero n a = ap (λ (k : ℕ). replicate k a) (sym (sub-zero n))
-drop-replicate (suc m) zero a = ap (λ (k : ℕ). replicate k a) (sym (zero-sub (suc m)))
-drop-replicate (suc m) (suc n) a = drop-replicate m n a ∙ ap (λ (k : ℕ). replicate k a) (sym (suc-sub-suc n m))
+-- lanes that hold the same, side by side
+pub same-lanes : (w e n : ℕ) (f g : ℕ → ℕ) → ((i : ℕ) → e ≤ i → i < e + n → f i ≡ g i) → fromLanes w e n f ≡ fromLanes w e n g
+same-lanes w e zero f g h = refl
+same-lanes w e (suc n) f g h =
+    ap₂ _++_ (ap (bytesOf w) (h e (omega arith) (omega arith)))
+    (same-lanes w (suc e) n f g (λ i l k. h i (omega arith) (omega arith)))
+
+-- a buffer of zeros into which the lanes below e are written
+abbrev pub Begun : ℕ → ℕ → ℕ → (ℕ → ℕ) → List ℕ → Type 0
+Begun size w e f buffer = buffer ≡ fromLanes w 0 e f ++ replicate (size - e * w) 0
+
+-- before the first lane
+pub begun-none : (size w : ℕ) (f : ℕ → ℕ) → Begun size w 0 f (replicate size 0)
+begun-none size w f = rw (zero-mul w, sub-zero size)
+
+-- one lane more
+pub begun-next : (size w e v : ℕ) (f : ℕ → ℕ) (buffer : List ℕ) → bytesOf w v ≡ bytesOf w (f e) → Begun size w e f buffer
+    → Begun size w (e + 1) f (withLane w e v buffer)
+begun-next size w e v f buffer same h =
+    ap (withLane w e v) h
+    ∙ write-next w e v f (replicate (size - e * w) 0) same
+    ∙ rw (add-one e, drop-replicate w (size - e * w) 0, suc-mul e w, sub-add-eq size (e * w) w)
+
+-- the buffer keeps its size
+pub begun-length : (size w e : ℕ) (f : ℕ → ℕ) (buffer : List ℕ) → e * w ≤ size → Begun size w e f buffer → length buffer ≡ size
+begun-length size w e f buffer h begun =
+    ap length begun
+    ∙ length-append (fromLanes w 0 e f) (replicate (size - e * w) 0)
+    ∙ omega (arith, length-lanes w 0 e f, length-replicate {A = ℕ} (size - e * w) 0)
+
+-- after the last lane, where the lanes fill it
+pub begun-all : (size w e n : ℕ) (f : ℕ → ℕ) (buffer : List ℕ) → e ≡ n → n * w ≡ size → Begun size w e f buffer → buffer ≡ fromLanes w 0 n f
+begun-all size w e n f buffer last fills begun =
+    begun ∙ rw (last, fills, sub-self size) (append-nil (fromLanes w 0 n f))

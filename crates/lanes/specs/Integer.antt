@@ -3,7 +3,8 @@ use Prim.Native.Nat.{ℕ, suc, _*_, _-_, _%_, _^_, _≤_, _<_}
 use mathlib.Core.Bool.{Bool, true, false, cond}
 use lib.Dec.{leb}
 use lib.IntN.{ℤ, pos, negsuc, subℕ}
-use Rattle.machine.specs.Size.{both}
+use Rattle.parts.specs.Part.{both}
+use Rattle.parts.specs.Number.{bitsOf}
 
 -- the top of D digits is set
 abbrev pub isNegative : ℕ → ℕ → Bool
@@ -24,3 +25,9 @@ FitsAt true D (pos n) = 2 * n < 2 ^ D
 FitsAt true D (negsuc n) = 2 * suc n ≤ 2 ^ D
 FitsAt false D (pos n) = n < 2 ^ D
 FitsAt false D (negsuc n) = ⊥
+
+-- a lane of 1 to 8 bytes, and a number of its digits
+pub record LaneNumber (w n : ℕ) : Type 0 where
+  pub least : 1 ≤ w
+  pub most : w ≤ 8
+  pub digits : n < 2 ^ bitsOf w

@@ -1,4 +1,3 @@
-pub mod Bytes
 pub mod Lane
 pub mod Integer
 pub mod Sum

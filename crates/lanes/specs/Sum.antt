@@ -1,33 +1,33 @@
--- Sums of lanes. A lane that counts comes with its governing bit; an inactive one adds nothing.
+-- Sums of elements. An element is the integer that a lane stands for; an inactive element adds nothing.
 use Prim.Native.Nat.{ℕ, zero, suc, _+_, _%_, _^_}
-use mathlib.Core.Bool.{Bool, true, cond}
+use mathlib.Core.Bool.{Bool, cond}
 use mathlib.Core.List.{List, [], _∷_}
 use lib.IntN.{ℤ, pos, _+ℤ_}
+use Rattle.parts.specs.Number.{bitsOf}
 use Rattle.lanes.specs.Lane.{lane, active}
 use Rattle.lanes.specs.Integer.{integer}
 
--- a governing bit and the number that its lane holds
-abbrev pub Lane : Type 0
-Lane = Bool × ℕ
+-- f of each number from e on, n of them
+abbrev pub each : {X : Type 0} → (ℕ → X) → ℕ → ℕ → List X
+each f e zero = []
+each f e (suc n) = f e ∷ each f (suc e) n
 
--- n lanes of w bytes from lane e on, each with its governing bit
-abbrev pub governed : ℕ → ℕ → ℕ → List ℕ → List ℕ → List Lane
-governed w e zero predicate register = []
-governed w e (suc n) predicate register = (active w e predicate, lane w e register) ∷ governed w (suc e) n predicate register
+-- Int(Elem[operand, e, esize], unsigned): the integer of element e, which has w bytes
+abbrev pub element : Bool → ℕ → List ℕ → ℕ → ℤ
+element signed w operand e = integer signed (bitsOf w) (lane w e operand)
 
--- n lanes of w bytes from lane e on, all of which count
-abbrev pub ungoverned : ℕ → ℕ → ℕ → List ℕ → List Lane
-ungoverned w e zero register = []
-ungoverned w e (suc n) register = (true, lane w e register) ∷ ungoverned w (suc e) n register
+-- what an element adds: itself if it is active, else nothing
+abbrev pub counted : Bool → ℤ → ℤ
+counted active z = cond active z (pos 0)
 
--- what a lane of D digits adds
-abbrev pub counted : Bool → ℕ → Lane → ℤ
-counted signed D l = cond (l .0) (integer signed D (l .1)) (pos 0)
+-- what element e of a register adds under the predicate that governs it
+abbrev pub activeElement : Bool → ℕ → List ℕ → List ℕ → ℕ → ℤ
+activeElement signed w predicate register e = counted (active w e predicate) (element signed w register e)
 
--- the exact sum of the lanes that count
-abbrev pub exactSum : Bool → ℕ → List Lane → ℤ
-exactSum signed D [] = pos 0
-exactSum signed D (l ∷ ls) = counted signed D l +ℤ exactSum signed D ls
+-- the exact sum of integers
+abbrev pub total : List ℤ → ℤ
+total [] = pos 0
+total (z ∷ zs) = z +ℤ total zs
 
 -- a sum of numbers modulo 2^D, rounding after each
 abbrev pub wrappedSum : ℕ → List ℕ → ℕ

@@ -1,9 +1,11 @@
 // Lanes of a register: a lane's number, its integer at 64 bits, the predicate bit that governs it, and writing a lane.
 ghost use mathlib.Core.Path.{_≡_};
-ghost use Prim.Native.Nat.{_+_, _*_, _^_, _≤_, _<_};
-ghost use lib.ListN.{length, replicate};
-ghost use Rattle.lanes.specs.Lane.{sizes, lane as laneAt, active, withLane, widthOf, bitsOf};
-ghost use Rattle.lanes.specs.Integer.{integer, residue};
+ghost use Prim.Native.Nat.{_+_, _*_, _≤_, _<_};
+ghost use lib.ListN.{length};
+ghost use Rattle.machine.specs.Size.{sizes};
+ghost use Rattle.lanes.specs.Lane.{lane as laneAt, active, withLane, widthOf, LaneIn, HasBit};
+ghost use Rattle.parts.specs.Number.{bitsOf};
+ghost use Rattle.lanes.specs.Integer.{integer, residue, LaneNumber};
 
 // The bytes of a lane, for each size.
 pub fn width_of(size: usize) -> usize
@@ -15,23 +17,15 @@ pub fn width_of(size: usize) -> usize
 
 // The number that lane e of w bytes holds.
 pub fn lane(register: &[u8], w: usize, e: usize) -> u64
-    requires { ⌜ (w ≤ 8) × (e * w + w ≤ length (now register)) ⌝ }
+    requires { ⌜ LaneIn w e (now register) ⌝ }
     ensures { λ r. ⌜ r ≡ laneAt w e (now (register .entry)) ⌝ }
 {
-    let at = e * w;
-    let mut n: u64 = 0;
-    let mut i = w;
-    while 0 < i {
-        i -= 1;
-        let byte = register[at + i] as u64;
-        n = n * 256 + byte;
-    }
-    n
+    parts::number_at(register, e * w, w)
 }
 
 // Whether lane e of w bytes is active: bit e·w of the predicate.
 pub fn is_active(predicate: &[u8], w: usize, e: usize) -> bool
-    requires { ⌜ (e * w < 8 * length (now predicate)) × (8 * length (now predicate) < 2 ^ 64) ⌝ }
+    requires { ⌜ HasBit w e (now predicate) ⌝ }
     ensures { λ r. ⌜ r ≡ active w e (now (predicate .entry)) ⌝ }
 {
     let bit = e * w;
@@ -41,7 +35,7 @@ pub fn is_active(predicate: &[u8], w: usize, e: usize) -> bool
 
 // A lane's number extended to 64 bits by its sign.
 pub fn extend(n: u64, w: usize, signed: bool) -> u64
-    requires { ⌜ (1 ≤ w) × (w ≤ 8) × (n < 2 ^ bitsOf w) ⌝ }
+    requires { ⌜ LaneNumber w n ⌝ }
     ensures { λ r. ⌜ r ≡ residue 64 (integer signed (bitsOf w) n) ⌝ }
 {
     if !signed {
@@ -59,23 +53,5 @@ pub fn put_lane(register: &mut [u8], w: usize, e: usize, n: u64)
     requires { ⌜ e * w + w ≤ length (now register) ⌝ }
     ensures { λ _. ⌜ now (register .exit) ≡ withLane w e n (now (register .entry)) ⌝ }
 {
-    let at = e * w;
-    let mut rest = n;
-    let mut i = 0;
-    while i < w {
-        register[at + i] = (rest % 256) as u8;
-        rest = rest / 256;
-        i += 1;
-    }
-}
-
-// Sets every byte to zero.
-pub fn clear(bytes: &mut [u8])
-    ensures { λ _. ⌜ now (bytes .exit) ≡ replicate (length (now (bytes .entry))) 0 ⌝ }
-{
-    let mut i = 0;
-    while i < bytes.len() {
-        bytes[i] = 0;
-        i += 1;
-    }
+    parts::put_number(register, e * w, w, n);
 }

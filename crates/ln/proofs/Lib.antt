@@ -1,3 +1,2 @@
-pub mod Placing
 pub mod Rows
-pub mod Order
+pub mod Panels

@@ -1,15 +1,18 @@
 -- What a host is handed: the library's answers as records of C.
-use Prim.Native.Nat.{ℕ, zero, suc}
+use Prim.Native.Nat.{ℕ}
 use mathlib.Core.Bool.{Bool, true, false, not}
+use mathlib.Core.List.{List}
 use lib.Dec.{eqb}
+use Rattle.machine.specs.Refusal.{unlessRefused}
 use Rattle.machine.specs.declared.Answer.{Answer}
 use Rattle.words.specs.Decode.{numberOf, fieldsOf}
 use Rattle.words.specs.declared.Decoded.{Decoded}
 use Rattle.words.specs.declared.Fields.{Fields}
-use Rattle.pane.specs.declared.Kind.{Kind}
-use Rattle.pane.specs.declared.Kind.the-variants.{Vector, Predicate}
-use Rattle.pane.specs.declared.reader.Next.{Next}
-use Rattle.pane.specs.Register.{sizeOf, startOf}
+use Rattle.registers.specs.declared.Kind.{Kind}
+use Rattle.registers.specs.declared.Kind.the-variants.{Vector, Predicate}
+use Rattle.programs.specs.declared.Next.{Next}
+use Rattle.registers.specs.Register.{registerBytes, registerAt}
+use Rattle.pane.specs.Drawn.{registerRefused}
 use Rattle.ln.specs.declared.LnAnswer.{LnAnswer}
 use Rattle.ln.specs.declared.LnFields.{LnFields}
 use Rattle.ln.specs.declared.LnPlace.{LnPlace}
@@ -46,8 +49,16 @@ flagOf Vector = 0
 flagOf Predicate = 1
 
 abbrev pub placeOut : ℕ → ℕ → Kind → ℕ → LnPlace
-placeOut zero k kind r = record { number = 0; predicate = flagOf kind; start = startOf k kind r; bytes = sizeOf k kind }
-placeOut (suc n) k kind r = record { number = suc n; predicate = 0; start = 0; bytes = 0 }
+placeOut n k kind r =
+    record {
+      number = n;
+      predicate = unlessRefused n (flagOf kind) 0;
+      start = unlessRefused n (registerAt k kind r) 0;
+      bytes = unlessRefused n (registerBytes k kind) 0;
+    }
+
+abbrev pub placeFor : ℕ → List ℕ → List ℕ → Kind → ℕ → LnPlace
+placeFor k z p kind r = placeOut (registerRefused k z p kind r) k kind r
 
 -- the next word of a program
 abbrev pub wordOut : Next → LnWord

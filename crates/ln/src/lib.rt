@@ -1,25 +1,24 @@
 // The library in a host's hands: thin calls under one prefix, for C and Rust. A slice is a pointer and then a length.
 use machine::Length;
 use machine::refusal;
-use pane::Kind;
+use registers::Kind;
 use words::Decoded;
 ghost use mathlib.Core.Path.{_≡_};
-ghost use mathlib.Core.Bool.{true, false};
-ghost use mathlib.Core.List.{[], _∷_, _++_};
 ghost use Prim.Native.Nat.{_+_, _≤_};
-ghost use lib.ListN.{length, take, drop};
+ghost use lib.ListN.{length};
+ghost use Rattle.parts.specs.Part.{withPart, laid};
 ghost use Rattle.machine.specs.Size.{segmentBytes};
+ghost use Rattle.registers.specs.State.{state};
 ghost use Rattle.words.specs.Decode.{decoded, noFields};
 ghost use Rattle.names.specs.Named.{Named};
 ghost use Rattle.assembles.specs.Assembled.{Assembled};
-ghost use Rattle.pane.specs.Register.{registerRefused};
-ghost use Rattle.pane.specs.Word.{nextWord};
+ghost use Rattle.programs.specs.Word.{nextWord};
 ghost use Rattle.sums.specs.Calls.{subtotalAnswer};
-ghost use Rattle.journal.specs.Calls.{freshRefused, freshAfter, stepRefused, stepVectors, stepJournal, backRefused, backVectors, backJournal};
+ghost use Rattle.journal.specs.Calls.{Freshened, Stepped, Backed};
 ghost use Rattle.session.specs.Layout.{sessionOf};
-ghost use Rattle.session.specs.Line.{lineRefused, stepLine, Written};
-ghost use Rattle.ln.specs.Lent.{panelBytes, joined, panelWrittenRefused, panelWritten};
-ghost use Rattle.ln.specs.Outside.{isSet, answerOut, answerIn, decodedOut, fieldsOut, flagOf, kindOf, placeOut, sessionOut, wordOut};
+ghost use Rattle.lines.specs.Line.{LineWritten};
+ghost use Rattle.ln.specs.Panel.{panelBytes, joined, PanelWritten};
+ghost use Rattle.ln.specs.Outside.{isSet, answerOut, answerIn, decodedOut, fieldsOut, flagOf, kindOf, placeFor, sessionOut, wordOut};
 
 // An answer with a value, which is 0 with a refusal.
 #[repr(C)]
@@ -158,7 +157,7 @@ pub extern "C" fn ln_subtotal(
 pub extern "C" fn ln_read_word(program: &[u8], at: usize) -> LnWord
     ensures { λ r. ⌜ r ≡ wordOut (nextWord (now (program .entry)) at) ⌝ }
 {
-    let next = pane::reader::next_word(program, at);
+    let next = programs::next_word(program, at);
     LnWord {
         number: next.number as u64,
         word: next.word as u64,
@@ -184,18 +183,18 @@ pub extern "C" fn ln_read_session(bytes: &[u8]) -> LnSession
 
 // The line of a step at the front of the output, or LENGTH, FILE, PROGRAM, END, OUT, UNKNOWN or UNDEFINED.
 #[no_mangle]
-pub extern "C" fn ln_write_line<'a>(
+pub extern "C" fn ln_write_line(
     out: &mut [u8],
     k: usize,
-    z: &'a [u8],
-    p: &'a [u8],
+    z: &[u8],
+    p: &[u8],
     program: &[u8],
     position: usize,
     number: u8,
 ) -> LnAnswer
-    ensures { λ r. ⌜ Written (lineRefused k (now (z .entry)) (now (p .entry)) (now (program .entry)) position number (length (now (out .entry)))) (stepLine k (now (z .entry)) (now (program .entry)) position number) (now (out .entry)) (now (out .exit)) (answerIn r) ⌝ }
+    ensures { λ r. ⌜ LineWritten k (state (now (z .entry)) (now (p .entry))) (now (program .entry)) position number (now (out .entry)) (now (out .exit)) (answerIn r) ⌝ }
 {
-    let answer = session::line::write_line(out, k, z, p, program, position, number);
+    let answer = lines::write_line(out, k, z, p, program, position, number);
     LnAnswer {
         number: answer.number as u64,
         value: answer.value,
@@ -205,7 +204,7 @@ pub extern "C" fn ln_write_line<'a>(
 // A fresh journal of the lent size, or LENGTH or ROOM.
 #[no_mangle]
 pub extern "C" fn ln_fresh(k: usize, journal: &mut [u8]) -> u64
-    ensures { λ r. ⌜ (r ≡ freshRefused k (now (journal .entry))) × (now (journal .exit) ≡ freshAfter k (now (journal .entry))) ⌝ }
+    ensures { λ r. ⌜ Freshened k (now (journal .entry)) r (now (journal .exit)) ⌝ }
 {
     journal::fresh(k, journal) as u64
 }
@@ -219,9 +218,9 @@ pub extern "C" fn ln_step(
     program: &[u8],
     journal: &mut [u8],
 ) -> u64
-    ensures { λ r. ⌜ (r ≡ stepRefused k (now (z .entry)) (now (p .entry)) (now (program .entry)) (now (journal .entry)))
-        × (now (z .exit) ≡ stepVectors k (now (z .entry)) (now (p .entry)) (now (program .entry)) (now (journal .entry)))
-        × (now (journal .exit) ≡ stepJournal k (now (z .entry)) (now (p .entry)) (now (program .entry)) (now (journal .entry))) ⌝ }
+    ensures { λ r. ⌜ Stepped k (state (now (z .entry)) (now (p .entry))) (now (program .entry)) (now (journal .entry)) r
+        (state (now (z .exit)) (now (p .entry)))
+        (now (journal .exit)) ⌝ }
 {
     journal::step(k, z, p, program, journal) as u64
 }
@@ -229,9 +228,9 @@ pub extern "C" fn ln_step(
 // Takes the last step back, or LENGTH, FILE, ROOM, JOURNAL or EMPTY.
 #[no_mangle]
 pub extern "C" fn ln_back(k: usize, z: &mut [u8], p: &[u8], journal: &mut [u8]) -> u64
-    ensures { λ r. ⌜ (r ≡ backRefused k (now (z .entry)) (now (p .entry)) (now (journal .entry)))
-        × (now (z .exit) ≡ backVectors k (now (z .entry)) (now (p .entry)) (now (journal .entry)))
-        × (now (journal .exit) ≡ backJournal k (now (z .entry)) (now (p .entry)) (now (journal .entry))) ⌝ }
+    ensures { λ r. ⌜ Backed k (state (now (z .entry)) (now (p .entry))) (now (journal .entry)) r
+        (state (now (z .exit)) (now (p .entry)))
+        (now (journal .exit)) ⌝ }
 {
     journal::back(k, z, p, journal) as u64
 }
@@ -245,7 +244,7 @@ pub extern "C" fn ln_register_place(
     predicate: u64,
     number: usize,
 ) -> LnPlace
-    ensures { λ r. ⌜ r ≡ placeOut (registerRefused k (length (now (z .entry))) (length (now (p .entry))) (kindOf (isSet predicate)) number) k (kindOf (isSet predicate)) number ⌝ }
+    ensures { λ r. ⌜ r ≡ placeFor k (now (z .entry)) (now (p .entry)) (kindOf (isSet predicate)) number ⌝ }
 {
     if predicate == 0 {
         place_of(k, z, p, Kind::Vector, number)
@@ -256,7 +255,7 @@ pub extern "C" fn ln_register_place(
 
 // Where a register of a kind stands.
 fn place_of(k: usize, z: &[u8], p: &[u8], kind: Kind, number: usize) -> LnPlace
-    ensures { λ r. ⌜ r ≡ placeOut (registerRefused k (length (now (z .entry))) (length (now (p .entry))) kind number) k kind number ⌝ }
+    ensures { λ r. ⌜ r ≡ placeFor k (now (z .entry)) (now (p .entry)) kind number ⌝ }
 {
     let refused = pane::register_refusal(k, z, p, kind, number);
     if refused != refusal::DONE {
@@ -265,8 +264,8 @@ fn place_of(k: usize, z: &[u8], p: &[u8], kind: Kind, number: usize) -> LnPlace
     LnPlace {
         number: refusal::DONE as u64,
         predicate: flag_of(kind),
-        start: pane::register_start(k, kind, number) as u64,
-        bytes: pane::register_bytes(k, kind) as u64,
+        start: registers::register_at(k, kind, number) as u64,
+        bytes: registers::register_bytes(k, kind) as u64,
     }
 }
 
@@ -293,25 +292,24 @@ fn no_place(number: u8) -> LnPlace
 }
 
 // The bytes of a panel.
-const PANEL_BYTES: usize = Length::MOST * Length::VECTOR_UNIT;
+const PANEL_BYTES: usize = Length::MOST * Length::SEGMENT_BYTES;
 
 // Writes a row at a place of the output.
 fn write_row(out: &mut [u8], at: usize, row: [u8; 16])
     requires { ⌜ at + segmentBytes ≤ length (now out) ⌝ }
-    ensures { λ _. ⌜ (now (out .exit) ≡ take at (now (out .entry)) ++ row ++ drop (at + segmentBytes) (now (out .entry))) × (length row ≡ segmentBytes) ⌝ }
+    ensures { λ _. ⌜ (length row ≡ segmentBytes) × (now (out .exit) ≡ withPart at segmentBytes row (now (out .entry))) ⌝ }
 {
-    let end = at + Length::VECTOR_UNIT;
-    bytes::copy(&row, &mut out[at..end]);
+    parts::overwrite(out, at, &row);
 }
 
 // Writes a panel's rows one after the other at the front of the output.
 fn write_rows(out: &mut [u8], rows: [[u8; 16]; 16])
     requires { ⌜ panelBytes ≤ length (now out) ⌝ }
-    ensures { λ _. ⌜ now (out .exit) ≡ joined rows ++ drop panelBytes (now (out .entry)) ⌝ }
+    ensures { λ _. ⌜ now (out .exit) ≡ laid (joined rows) (now (out .entry)) ⌝ }
 {
     let mut s = 0;
     while s < Length::MOST {
-        write_row(out, Length::VECTOR_UNIT * s, rows[s]);
+        write_row(out, Length::SEGMENT_BYTES * s, rows[s]);
         s += 1;
     }
 }
@@ -327,8 +325,7 @@ pub extern "C" fn ln_panel(
     size: usize,
     out: &mut [u8],
 ) -> u64
-    ensures number { λ r. ⌜ r ≡ panelWrittenRefused k (now (z .entry)) (now (p .entry)) source governing size (length (now (out .entry))) ⌝ }
-    ensures bytes { λ _. ⌜ now (out .exit) ≡ panelWritten k (now (z .entry)) (now (p .entry)) source governing size (now (out .entry)) ⌝ }
+    ensures { λ r. ⌜ PanelWritten k (now (z .entry)) (now (p .entry)) source governing size (now (out .entry)) r (now (out .exit)) ⌝ }
 {
     let files = machine::check_files(k, z, p);
     if files != refusal::DONE {

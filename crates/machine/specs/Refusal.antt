@@ -1,10 +1,13 @@
 -- The refusals: their numbers, the order in which they are tested, and the tests that several calls share.
-use Prim.Native.Nat.{ℕ, zero, suc}
+use Prim.Native.Nat.{ℕ, zero, suc, _+_, _*_}
+use mathlib.Core.Path.{_≡_}
+use mathlib.Core.Logic.{_⊎_}
 use mathlib.Core.Bool.{Bool, true, false, not, cond}
-use mathlib.Core.List.{List, [], _∷_}
-use lib.Dec.{eqb}
+use mathlib.Core.List.{List, [], _∷_, _++_}
+use lib.Dec.{eqb, ltb}
+use Rattle.parts.specs.Part.{both}
 use Rattle.machine.specs.declared.Answer.{Answer}
-use Rattle.machine.specs.Size.{both, isLegal, vectorFile, predicateFile, isProgram}
+use Rattle.machine.specs.Size.{isLegal, vectorFile, predicateFile, isProgram}
 
 -- done, and the fourteen refusals
 abbrev pub DONE : ℕ
@@ -52,46 +55,73 @@ RANGE = 13
 abbrev pub SESSION : ℕ
 SESSION = 14
 
--- the order in which the refusals are tested: by their numbers, but OUT before UNKNOWN and UNDEFINED
-abbrev pub order : List ℕ
-order =
-    LENGTH ∷ FILE ∷ PROGRAM ∷ ROOM ∷ JOURNAL ∷ END ∷ OUT ∷ UNKNOWN ∷ UNDEFINED ∷ FULL ∷ EMPTY ∷ TEXT ∷ RANGE ∷ SESSION ∷ []
-
--- a test that a call makes: the refusal's number, and whether its case is given
+-- a test that a call makes: its place in the order, the refusal's number, and whether its case is given
 abbrev pub Test : Type 0
-Test = ℕ × Bool
+Test = ℕ × ℕ × Bool
 
--- whether the test of this number is among those made, and its case given
-abbrev pub given : ℕ → List Test → Bool
-given n [] = false
-given n (t ∷ ts) = cond (eqb n (t .0)) (t .1) (given n ts)
+-- the test of a number at a place of its own; places are ten apart, so that another test of any number can stand between two
+abbrev pub testAt : ℕ → ℕ → Bool → Test
+testAt place n given = (place, n, given)
 
--- the first of these numbers whose case is given; DONE where none is
-abbrev pub firstOf : List ℕ → List Test → ℕ
-firstOf [] ts = DONE
-firstOf (n ∷ ns) ts = cond (given n ts) n (firstOf ns ts)
+-- the test of a number at its usual place: the refusals are tested in the order of their numbers
+abbrev pub test : ℕ → Bool → Test
+test n given = testAt (10 * n) n given
 
--- what a call that makes these tests answers: the first refusal in the order, or DONE
+-- but OUT is tested before UNKNOWN and UNDEFINED
+abbrev pub outTest : Bool → Test
+outTest short = testAt (10 * END + 5) OUT short
+
+-- tests in the paper's order: each stands at a later place than the one before it
+abbrev pub inOrder : List Test → Bool
+inOrder [] = true
+inOrder (t ∷ []) = true
+inOrder (t ∷ u ∷ ts) = both (ltb (t .0) (u .0)) (inOrder (u ∷ ts))
+
+-- the number of the first test whose case is given; where none is, what comes after them
+abbrev pub first : List Test → ℕ → ℕ
+first [] after = after
+first (t ∷ ts) after = cond (t .2) (t .1) (first ts after)
+
+-- what a call that makes these tests answers: the first refusal, or DONE
 abbrev pub refused : List Test → ℕ
-refused ts = firstOf order ts
+refused ts = first ts DONE
+
+-- no case is given
+abbrev pub None : List Test → Type 0
+None [] = Unit {0}
+None (t ∷ ts) = (t .2 ≡ false) × None ts
+
+-- the case of this number is given, and none before it
+abbrev pub First : List Test → ℕ → Type 0
+First [] n = ⊥
+First (t ∷ ts) n = ((t .2 ≡ true) × (t .1 ≡ n)) ⊎ ((t .2 ≡ false) × First ts n)
+
+-- tests that are made only where something holds
+abbrev pub onlyWhere : Bool → List Test → List Test
+onlyWhere b [] = []
+onlyWhere b (t ∷ ts) = testAt (t .0) (t .1) (both b (t .2)) ∷ onlyWhere b ts
 
 -- k is no legal length
-abbrev pub lengthTest : ℕ → Test
-lengthTest k = (LENGTH, not (isLegal k))
+abbrev pub lengthTests : ℕ → List Test
+lengthTests k = test LENGTH (not (isLegal k)) ∷ []
 
--- the files' sizes are not those of the length k
-abbrev pub fileTest : ℕ → ℕ → ℕ → Test
-fileTest k z p = (FILE, not (both (eqb z (vectorFile k)) (eqb p (predicateFile k))))
+-- nor are the files' sizes those of the length k
+abbrev pub filesTests : ℕ → ℕ → ℕ → List Test
+filesTests k z p = lengthTests k ++ test FILE (not (both (eqb z (vectorFile k)) (eqb p (predicateFile k)))) ∷ []
 
 -- the program's size is not whole words, or they are too many
-abbrev pub programTest : ℕ → Test
-programTest n = (PROGRAM, not (isProgram n))
+abbrev pub programTests : ℕ → List Test
+programTests n = test PROGRAM (not (isProgram n)) ∷ []
 
 -- a number is out of its range
 abbrev pub rangeTest : Bool → Test
-rangeTest outside = (RANGE, outside)
+rangeTest outside = test RANGE outside
+
+-- the first where nothing refuses, the second with a refusal
+abbrev pub unlessRefused : {X : Type 0} → ℕ → X → X → X
+unlessRefused zero done other = done
+unlessRefused (suc n) done other = other
 
 -- a call's answer: the refusal of its tests with 0, or DONE with the value
 abbrev pub answer : ℕ → ℕ → Answer
-answer zero v = record { number = DONE; value = v }
-answer (suc n) v = record { number = suc n; value = 0 }
+answer n v = record { number = n; value = unlessRefused n v 0 }

@@ -1,14 +1,11 @@
 -- The machine's sizes. A length k stands for vectors of 16k bytes; each number is named here once.
 use Prim.Native.Nat.{ℕ, _*_, _%_}
-use mathlib.Core.Bool.{Bool, true, false}
+use mathlib.Core.Path.{_≡_}
+use mathlib.Core.Bool.{Bool, true}
 use mathlib.Core.List.{List}
 use lib.Dec.{leb, eqb}
-use lib.ListN.{take, drop}
-
--- both of two tests
-abbrev pub both : Bool → Bool → Bool
-both true b = b
-both false b = false
+use lib.ListN.{length}
+use Rattle.parts.specs.Part.{both}
 
 -- the least and the most k
 abbrev pub leastLength : ℕ
@@ -27,19 +24,27 @@ predicates = 16
 abbrev pub governing : ℕ
 governing = 8
 
+-- how many sizes an element may have: 1, 2, 4 or 8 bytes
+abbrev pub sizes : ℕ
+sizes = 4
+
 -- a length that the machine may have
 abbrev pub isLegal : ℕ → Bool
 isLegal k = both (leb leastLength k) (leb k mostLength)
 
--- the bytes of a segment, of a vector register and of a predicate register
+-- the bytes of a segment, and those of a predicate that govern it: a bit for each byte
 abbrev pub segmentBytes : ℕ
 segmentBytes = 16
 
+abbrev pub segmentPredicate : ℕ
+segmentPredicate = 2
+
+-- the bytes of a vector register and of a predicate register
 abbrev pub vectorBytes : ℕ → ℕ
 vectorBytes k = segmentBytes * k
 
 abbrev pub predicateBytes : ℕ → ℕ
-predicateBytes k = 2 * k
+predicateBytes k = segmentPredicate * k
 
 -- the bytes of both files
 abbrev pub vectorFile : ℕ → ℕ
@@ -47,13 +52,6 @@ vectorFile k = vectors * vectorBytes k
 
 abbrev pub predicateFile : ℕ → ℕ
 predicateFile k = predicates * predicateBytes k
-
--- where register r starts in its file
-abbrev pub vectorAt : ℕ → ℕ → ℕ
-vectorAt k r = r * vectorBytes k
-
-abbrev pub predicateAt : ℕ → ℕ → ℕ
-predicateAt k r = r * predicateBytes k
 
 -- the bytes of a word, and the most words of a program
 abbrev pub wordBytes : ℕ
@@ -66,9 +64,8 @@ mostWords = 256
 abbrev pub isProgram : ℕ → Bool
 isProgram n = both (eqb (n % wordBytes) 0) (leb n (wordBytes * mostWords))
 
--- the bytes of register r
-abbrev pub vectorOf : ℕ → ℕ → List ℕ → List ℕ
-vectorOf k r z = take (vectorBytes k) (drop (vectorAt k r) z)
-
-abbrev pub predicateOf : ℕ → ℕ → List ℕ → List ℕ
-predicateOf k r p = take (predicateBytes k) (drop (predicateAt k r) p)
+-- a legal length, and both files of its sizes
+pub record Files (k : ℕ) (z p : List ℕ) : Type 0 where
+  pub legal : isLegal k ≡ true
+  pub vectorSize : length z ≡ vectorFile k
+  pub predicateSize : length p ≡ predicateFile k

@@ -1,10 +1,9 @@
 // The machine's sizes, each named once with the length it belongs to, and the checks of what a caller lends.
 ghost use mathlib.Core.Path.{_≡_};
-ghost use mathlib.Core.List.{[], _∷_};
-ghost use Prim.Native.Nat.{_≤_, _<_};
+ghost use Prim.Native.Nat.{_≤_};
 ghost use lib.ListN.{length};
-ghost use Rattle.machine.specs.Size.{mostLength, vectors, predicates, isLegal, vectorBytes, predicateBytes, vectorFile, predicateFile, vectorAt, predicateAt};
-ghost use Rattle.machine.specs.Refusal.{refused, lengthTest, fileTest, programTest};
+ghost use Rattle.machine.specs.Size.{mostLength, isLegal, vectorBytes, predicateBytes, vectorFile, predicateFile};
+ghost use Rattle.machine.specs.Refusal.{refused, lengthTests, filesTests, programTests};
 
 pub mod refusal;
 
@@ -24,22 +23,6 @@ impl Length {
 
     pub const MOST: usize = 16;
 
-    pub const VECTORS: usize = 32;
-
-    pub const PREDICATES: usize = 16;
-
-    pub const GOVERNING: usize = 8;
-
-    pub const VECTOR_UNIT: usize = 16;
-
-    pub const PREDICATE_UNIT: usize = 2;
-
-    pub const MOST_BYTES: usize = Length::MOST * Length::VECTOR_UNIT;
-
-    pub const WORD_BYTES: usize = 4;
-
-    pub const MOST_WORDS: usize = 256;
-
     // Whether k is a length that the machine may have.
     pub fn is_legal(self) -> bool
         ensures { λ r. ⌜ r ≡ isLegal (self .k) ⌝ }
@@ -51,21 +34,29 @@ impl Length {
         k <= Length::MOST
     }
 
+    pub const SEGMENT_BYTES: usize = 16;
+
+    pub const MOST_BYTES: usize = Length::MOST * Length::SEGMENT_BYTES;
+
     // The bytes of a vector register.
     pub fn vector_bytes(self) -> usize
         requires { ⌜ self .k ≤ mostLength ⌝ }
         ensures { λ r. ⌜ r ≡ vectorBytes (self .k) ⌝ }
     {
-        Length::VECTOR_UNIT * self.k
+        Length::SEGMENT_BYTES * self.k
     }
 
-    // The bytes of a predicate register.
+    pub const SEGMENT_PREDICATE: usize = 2;
+
+    // The bytes of a predicate register: a bit for each byte of a vector register.
     pub fn predicate_bytes(self) -> usize
         requires { ⌜ self .k ≤ mostLength ⌝ }
         ensures { λ r. ⌜ r ≡ predicateBytes (self .k) ⌝ }
     {
-        Length::PREDICATE_UNIT * self.k
+        Length::SEGMENT_PREDICATE * self.k
     }
+
+    pub const VECTORS: usize = 32;
 
     // The bytes of the vector file.
     pub fn vector_file(self) -> usize
@@ -75,6 +66,10 @@ impl Length {
         Length::VECTORS * self.vector_bytes()
     }
 
+    pub const PREDICATES: usize = 16;
+
+    pub const GOVERNING: usize = 8;
+
     // The bytes of the predicate file.
     pub fn predicate_file(self) -> usize
         requires { ⌜ self .k ≤ mostLength ⌝ }
@@ -83,26 +78,16 @@ impl Length {
         Length::PREDICATES * self.predicate_bytes()
     }
 
-    // Where vector register r starts in the vector file.
-    pub fn vector_at(self, r: usize) -> usize
-        requires { ⌜ (self .k ≤ mostLength) × (r < vectors) ⌝ }
-        ensures { λ a. ⌜ a ≡ vectorAt (self .k) r ⌝ }
-    {
-        r * self.vector_bytes()
-    }
+    pub const SIZES: usize = 4;
 
-    // Where predicate register r starts in the predicate file.
-    pub fn predicate_at(self, r: usize) -> usize
-        requires { ⌜ (self .k ≤ mostLength) × (r < predicates) ⌝ }
-        ensures { λ a. ⌜ a ≡ predicateAt (self .k) r ⌝ }
-    {
-        r * self.predicate_bytes()
-    }
+    pub const WORD_BYTES: usize = 4;
+
+    pub const MOST_WORDS: usize = 256;
 }
 
 // The refusal of a length: LENGTH or DONE.
 pub fn check_length(k: usize) -> u8
-    ensures { λ r. ⌜ r ≡ refused (lengthTest k ∷ []) ⌝ }
+    ensures { λ r. ⌜ r ≡ refused (lengthTests k) ⌝ }
 {
     let length = Length { k };
     if length.is_legal() {
@@ -114,7 +99,7 @@ pub fn check_length(k: usize) -> u8
 
 // The refusal of a length with both files: LENGTH, FILE or DONE.
 pub fn check_files(k: usize, z: &[u8], p: &[u8]) -> u8
-    ensures { λ r. ⌜ r ≡ refused (lengthTest k ∷ fileTest k (length (now (z .entry))) (length (now (p .entry))) ∷ []) ⌝ }
+    ensures { λ r. ⌜ r ≡ refused (filesTests k (length (now (z .entry))) (length (now (p .entry)))) ⌝ }
 {
     let length = Length { k };
     if !length.is_legal() {
@@ -131,7 +116,7 @@ pub fn check_files(k: usize, z: &[u8], p: &[u8]) -> u8
 
 // The refusal of a program's bytes: PROGRAM or DONE.
 pub fn check_program(program: &[u8]) -> u8
-    ensures { λ r. ⌜ r ≡ refused (programTest (length (now (program .entry))) ∷ []) ⌝ }
+    ensures { λ r. ⌜ r ≡ refused (programTests (length (now (program .entry)))) ⌝ }
 {
     if program.len() % Length::WORD_BYTES != 0 {
         return refusal::PROGRAM;

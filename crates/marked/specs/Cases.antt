@@ -4,12 +4,14 @@ use mathlib.Core.Bool.{cond}
 use mathlib.Core.List.{List, [], _∷_, _++_, map}
 use lib.Dec.{eqb}
 use lib.ListN.{take, replicate}
-use Rattle.machine.specs.Size.{vectors, predicates, vectorBytes, predicateBytes, vectorOf}
-use Rattle.machine.specs.Refusal.{DONE, UNDEFINED}
-use Rattle.lanes.specs.Bytes.{number, bytesOf}
+use Rattle.machine.specs.Size.{vectors, predicates, vectorBytes, predicateBytes}
+use Rattle.registers.specs.State.{state, read}
+use Rattle.registers.specs.declared.Kind.the-variants.{Vector}
+use Rattle.machine.specs.Refusal.{DONE, UNDEFINED, unlessRefused}
+use Rattle.parts.specs.Number.{number, bytesOf}
 use Rattle.words.specs.Decode.{decoded, numberOf, fieldsOf}
-use Rattle.adds.specs.Execute.{executed}
-use Rattle.names.specs.Text.{bytes}
+use Rattle.executes.specs.Execute.{executed}
+use Rattle.words.specs.Text.{bytes}
 use Rattle.names.specs.Named.{textOfWord}
 
 -- what a register holds: its number and its first bytes
@@ -36,16 +38,16 @@ pub record Case : Type 0 where
   pub destination : ℕ
   pub text : List ℕ
 
--- what the definitions give: the answer's number, the destination's bytes as one number, and the text
+-- what the definitions give: the answer's number, and unless it is a refusal the destination's bytes as one number and the text
 abbrev pub Outcome : Type 0
 Outcome = ℕ × ℕ × List ℕ
 
 abbrev pub outcome : Case → Outcome
 outcome c =
-    let z = fileFrom 0 vectors (vectorBytes (c .k)) (c .vectorsHold) in
-    let p = fileFrom 0 predicates (predicateBytes (c .k)) (c .predicatesHold) in
+    let s = state (fileFrom 0 vectors (vectorBytes (c .k)) (c .vectorsHold)) (fileFrom 0 predicates (predicateBytes (c .k)) (c .predicatesHold)) in
     let f = fieldsOf (decoded (c .word)) in
-    (numberOf (decoded (c .word)), number (vectorOf (c .k) (f .d) (executed f (c .k) z p)), textOfWord (c .word))
+    let n = numberOf (decoded (c .word)) in
+    (n, unlessRefused n (number (read (c .k) Vector (f .d) (executed f (c .k) s))) 0, unlessRefused n (textOfWord (c .word)) [])
 
 abbrev pub expected : Case → Outcome
 expected c = (c .answer, c .destination, c .text)
@@ -53,7 +55,7 @@ expected c = (c .answer, c .destination, c .text)
 abbrev pub case : ℕ → ℕ → List Held → List Held → ℕ → List ℕ → Case
 case word k z p d t = record { word = word; k = k; vectorsHold = z; predicatesHold = p; answer = DONE; destination = d; text = t }
 
--- a word that no row allows
+-- a word whose row does not allow its size: the number alone
 abbrev pub undefinedWord : ℕ → Case
 undefinedWord word =
     record { word = word; k = 1; vectorsHold = []; predicatesHold = []; answer = UNDEFINED; destination = 0; text = [] }

@@ -3,9 +3,11 @@
 use mathlib.Core.Path.{_≡_, refl}
 use mathlib.Core.List.{[], _∷_, map}
 use Rattle.words.specs.Digits.{digitsAnd}
-use Rattle.words.specs.Table.{rowOf, matches, placeFrom}
+use Rattle.words.specs.Text.{bytes}
+use Rattle.words.specs.Table.{rowAt, rowOf, matches, placeFrom}
 use Rattle.words.specs.Decode.{decoded}
-use Rattle.names.specs.Text.{bytes, nameOf, decimal, letterOf, textOf}
+use Rattle.names.specs.Digits.{digitOf, digitsIn, decimalWidth}
+use Rattle.names.specs.Text.{keyOf, nameOf, letterOf, textOf}
 use Rattle.names.specs.Named.{textOfWord}
 
 pub example-texts : map textOfWord
@@ -29,5 +31,5 @@ pub example-texts : map textOfWord
     ∷ bytes "addqv v31.16b, p7, z31.b"
     ∷ bytes "uadalp z31.h, p7/m, z31.b"
     ∷ []
-unfolding decoded rowOf placeFrom matches digitsAnd textOf nameOf decimal letterOf
+unfolding decoded rowAt rowOf placeFrom matches digitsAnd textOf keyOf nameOf digitOf digitsIn decimalWidth letterOf
 example-texts = refl

@@ -1,42 +1,74 @@
--- The search for the row that a text's first six bytes name.
+-- The rows' names: what is computed over the table, what it says of each row, and the search for the row that a text's first six bytes name.
 -- Assumes nothing.
 use mathlib.Core.Path.{_≡_, refl, sym, _∙_, ap}
 use mathlib.Core.Bool.{Bool, true, false, cond}
-use mathlib.Core.List.{List, [], _∷_}
-use Prim.Native.Nat.{ℕ, _+_, _<_}
+use mathlib.Core.List.{List, [], _++_}
+use Prim.Native.Nat.{ℕ, _+_, _≤_, _<_}
 use native.Mathlib.Numerals.{add-one}
 use native.Mathlib.Omega.{arith}
-use lib.ListN.{length, take, drop, length-take}
+use lib.Dec.{eqb, leb}
+use lib.ListN.{length, getD, take, drop, length-take, List·getD-map}
 use lib.Seq.{drop-cons}
-use borrow.Author.Tests.{eq-eqb}
-use Rattle.words.specs.Table.{rows}
-use Rattle.names.specs.Text.{sameBytes, keyBytes, keyOf, keys, keyFrom, rowNamed}
-use Rattle.names.proofs.Rows.{same-true, key-at, row-good}
+use borrow.Author.Tests.{eqb-true, leb-true, eq-eqb, ne-eqb}
+use Rattle.parts.specs.Part.{both, sameBytes}
+use Rattle.parts.proofs.Same.{both-left, both-right, same-true, same-not}
+use Rattle.words.specs.Text.{bytes}
+use Rattle.words.specs.Table.{nameBytes, rows, rowAt, table, noRow}
+use Rattle.words.specs.declared.Row.{Row}
+use Rattle.words.proofs.Every.{every, at-each}
+use Rattle.words.proofs.Rows.{at-any}
+use Rattle.names.specs.Text.{keyOf, nameOf, keys, keyFrom, rowNamed}
 
--- the test of two byte strings: what an answer says that is right whichever it is
-same-refl : (l : List ℕ) → sameBytes l l ≡ true
-same-refl [] = refl
-same-refl (a ∷ l) = rw (eq-eqb a a refl) (same-refl l)
+-- a row's name and its space, by its six bytes: they have the space, or it still comes
+abbrev pub closed : ℕ → List ℕ
+closed row = cond (eqb (getD (keyOf row) 5 0) 32) (keyOf row) (keyOf row ++ bytes " ")
 
-pub same-not : (a b : List ℕ) → (a ≡ b → ⊥) → sameBytes a b ≡ false
-same-not a b differ = go (sameBytes a b) refl
-  where
-    go : (t : Bool) → sameBytes a b ≡ t → t ≡ false
-    go true e = absurd (differ (same-true a b e))
-    go false e = refl
+rowGood : ℕ → Bool
+rowGood row =
+    both (eqb (length (keyOf row)) nameBytes)
+    (both (leb (length (nameOf row ++ bytes " ")) 7) (sameBytes (closed row) (nameOf row ++ bytes " ")))
 
-pub same-is : (a b : List ℕ) (r : Bool) → (r ≡ true → a ≡ b) × (a ≡ b → r ≡ true) → r ≡ sameBytes a b
-same-is a b true h = sym (rw (h .0 refl) (same-refl b))
-same-is a b false h = sym (same-not a b (λ e. let z = h .1 e in let k : _≡_ {A = ℕ} 0 1 = cc in absurd (omega arith)))
+rows-good : every rows rowGood ≡ true
+unfolding rowGood keyOf nameOf rowAt
+rows-good = refl
+
+-- a row's six bytes, and its name with its space
+pub record Good (row : ℕ) : Type 0 where
+  pub key : length (keyOf row) ≡ nameBytes
+  pub name : length (nameOf row ++ bytes " ") ≤ 7
+  pub spaced : closed row ≡ nameOf row ++ bytes " "
+
+pub row-good : (row : ℕ) → row < rows → Good row
+unfolding rowGood
+row-good row h =
+    let e = at-each rows rowGood rows-good row h in
+    let rest = both-right (eqb (length (keyOf row)) nameBytes) _ e in
+    record {
+      key = eqb-true _ _ (both-left _ _ e);
+      name = leb-true _ _ (both-left _ _ rest);
+      spaced = same-true _ _ (both-right (leb (length (nameOf row ++ bytes " ")) 7) _ rest);
+    }
+
+-- a name of five letters, and one of six
+pub name-five : (row : ℕ) → row < rows → getD (keyOf row) 5 0 ≡ 32 → nameOf row ++ bytes " " ≡ keyOf row
+name-five row h e = sym (row-good row h .spaced) ∙ rw (eq-eqb _ _ e)
+
+pub name-six : (row : ℕ) → row < rows → (getD (keyOf row) 5 0 ≡ 32 → ⊥) → nameOf row ++ bytes " " ≡ keyOf row ++ bytes " "
+name-six row h e = sym (row-good row h .spaced) ∙ rw (ne-eqb _ _ e)
 
 -- fewer bytes than a key has are no key
-pub short-not : (row : ℕ) (text : List ℕ) → row < rows → length text < keyBytes → sameBytes (keyOf row) (take keyBytes text) ≡ false
+pub short-not : (row : ℕ) (text : List ℕ) → row < rows → length text < nameBytes → sameBytes (keyOf row) (take nameBytes text) ≡ false
 short-not row text h short =
-    same-not (keyOf row) (take keyBytes text) (λ e. omega (arith, row-good row h .key, ap length e, length-take keyBytes text))
+    same-not (keyOf row) (take nameBytes text) (λ e. omega (arith, row-good row h .key, ap length e, length-take nameBytes text))
 
 -- two results that the contract of `row_named` allows are the same
 pub row-named-determined : (text : List ℕ) (r s : ℕ) → r ≡ rowNamed text → s ≡ rowNamed text → r ≡ s
 row-named-determined text r s p q = p ∙ sym q
+
+-- the keys are a table
+key-at : (row : ℕ) → row < rows → getD keys row [] ≡ keyOf row
+unfolding keyOf rowAt
+key-at row h = at-any keys row [] (noRow .0) h ∙ List·getD-map (λ (r : Row). r .0) table row noRow
 
 -- the search from a row on, at the row
 key-step : (i : ℕ) (bytes : List ℕ) → i < rows

@@ -1,7 +1,6 @@
 pub mod Puts
-pub mod Pieces
-pub mod Rows
+pub mod Decimals
 pub mod Keys
-pub mod Longest
+pub mod Pieces
 pub mod Naming
 pub mod Examples

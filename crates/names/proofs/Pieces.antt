@@ -1,88 +1,156 @@
--- The pieces of a text: how long they may be, and the text as its name and operands in turn.
+-- The pieces of a text in turn, and how long it may be: 26 bytes, which one text has.
 -- Assumes nothing.
-use mathlib.Core.Path.{_≡_, refl, _∙_}
-use mathlib.Core.Bool.{Bool, true, false}
+use mathlib.Core.Path.{_≡_, refl, _∙_, ap}
 use mathlib.Core.List.{List, [], _∷_, _++_, append-assoc, append-nil}
-use Prim.Native.Nat.{ℕ, _/_, _≤_, _<_}
+use mathlib.Core.Bool.{Bool, true}
+use Prim.Native.Nat.{ℕ, zero, suc, _+_, _^_, _≤_, _<_}
+use native.Mathlib.Nat.{lt-of-lt-of-le}
 use native.Mathlib.Omega.{arith}
 use lib.Dec.{ltb}
 use lib.ListN.{length, length-append}
-use borrow.Author.Tests.{lt-ltb, le-ltb, ltb-true, ltb-false}
-use Rattle.words.specs.Table.{formOf}
-use Rattle.words.specs.Decode.{hasQ}
-use Rattle.words.specs.declared.Form.{Form}
-use Rattle.words.specs.declared.Form.the-variants.{Reduction, Segment, Long, Pairwise, Widening}
+use borrow.Author.Tests.{ltb-true}
+use Rattle.machine.specs.Size.{sizes}
+use Rattle.words.specs.Text.{bytes}
+use Rattle.words.specs.Digits.{digitsAnd}
+use Rattle.words.specs.Table.{rowAt, rowOf, familyOf, matches, placeFrom}
+use Rattle.words.specs.Field.{registerDigits, governingDigits, secondDigits, qDigits}
+use Rattle.words.specs.Decode.{decoded}
+use Rattle.words.specs.Encode.{InRange}
+use Rattle.words.specs.declared.Family.{Family}
+use Rattle.words.specs.declared.Family.the-variants.{Low, Wide}
+use Rattle.words.specs.declared.LowFamily.the-variants.{Reduction, Segment, Long}
+use Rattle.words.specs.declared.WideFamily.the-variants.{Pairwise, Widening}
 use Rattle.words.specs.declared.Fields.{Fields}
-use Rattle.names.specs.declared.Suffix.{Suffix}
-use Rattle.names.specs.declared.Suffix.the-variants.{Plain, Lane, Lanes, Merging}
+use Rattle.words.specs.declared.Decoded.{Decoded}
+use Rattle.words.specs.declared.Decoded.the-variants.{Unknown, Undefined, Word}
+use Rattle.words.proofs.Decoding.{governing-below, second-below, q-below}
+use Rattle.words.proofs.Encoding.{decoded-in-range}
+use Rattle.words.proofs.Every.{every, at-each}
 use Rattle.names.specs.declared.Operand.{Operand}
-use Rattle.names.specs.Text.{bytes, nameOf, digit, decimal, suffixText, operandText, operandsOf, operandAt, listed, textOf}
+use Rattle.names.specs.Digits.{digitOf, digitsIn, decimalWidth, decimal}
+use Rattle.names.specs.Text.{keyOf, nameOf, letterOf, lanesOf, operandText, whereIn, further, following, listed, destinationOperand, governingOperand, sourceOperand, operandsNamed, textOf}
+use Rattle.names.specs.Named.{leastOut, textOfDecoded, textOfWord}
+use Rattle.names.proofs.Puts.{room-first}
+use Rattle.names.proofs.Keys.{row-good}
+use Rattle.names.proofs.Decimals.{decimal-short}
 
--- a number of one digit, and one of two
-pub decimal-one : (n : ℕ) → n < 10 → decimal n ≡ digit n ∷ []
-unfolding decimal
-decimal-one n h = rw (lt-ltb _ _ h)
+-- the text as it is written: the name with its space, the destination and the further operands
+abbrev pub front : Fields → Operand → List ℕ
+front f o = nameOf (f .row) ++ bytes " " ++ operandText o
 
-pub decimal-two : (n : ℕ) → 10 ≤ n → decimal n ≡ digit (n / 10) ∷ digit n ∷ []
-unfolding decimal
-decimal-two n h = rw (le-ltb _ _ h)
+abbrev pub pieces : Family → Fields → List ℕ
+pieces family f =
+    front f (destinationOperand family f)
+    ++ further (governingDigits family) (governingOperand family f)
+    ++ further registerDigits (sourceOperand family (f .n) f)
+    ++ further (secondDigits family) (sourceOperand family (f .m) f)
 
--- how long a piece is at most
-pub decimal-most : (n : ℕ) → length (decimal n) ≤ 2
-decimal-most n = go (ltb n 10) refl
+-- an operand that is there or not, before others
+following-where : (digits : ℕ) (o : Operand) (os : List Operand) → following (whereIn digits o os) ≡ further digits o ++ following os
+following-where zero o os = refl
+following-where (suc digits) o os = refl
+
+pub further-some : (digits : ℕ) (o : Operand) → (digits ≡ 0 → ⊥) → further digits o ≡ bytes ", " ++ operandText o
+further-some zero o h = absurd (h refl)
+further-some (suc digits) o h = refl
+
+regroup : (a t u v w : List ℕ) → a ++ (t ++ (u ++ (v ++ (w ++ [])))) ≡ a ++ t ++ u ++ v ++ w
+regroup a t u v w = simp (append-assoc, append-nil)
+
+pub text-pieces : (f : Fields) → textOf f ≡ pieces (familyOf (f .row)) f
+unfolding textOf
+text-pieces f =
+    let family = familyOf (f .row) in
+    let front = nameOf (f .row) ++ bytes " " in
+    let o = destinationOperand family f in
+    let p = governingOperand family f in
+    let n = sourceOperand family (f .n) f in
+    let m = sourceOperand family (f .m) f in
+    ap (λ (l : List ℕ). front ++ (operandText o ++ l))
+    (following-where (governingDigits family) p (n ∷ whereIn (secondDigits family) m [])
+    ∙ ap (λ (l : List ℕ). further (governingDigits family) p ++ (further registerDigits n ++ l)) (following-where (secondDigits family) m []))
+    ∙ regroup front (operandText o) (further (governingDigits family) p) (further registerDigits n) (further (secondDigits family) m)
+
+-- the bytes of a text, at most
+abbrev pub mostText : ℕ
+mostText = 26
+
+-- counts of lanes and registers' numbers have two digits at most
+lanesShort : ℕ → ℕ → Bool
+lanesShort size q = ltb (lanesOf q size) 100
+
+lanes-short : every sizes (λ size. every 2 (lanesShort size)) ≡ true
+unfolding lanesShort
+lanes-short = refl
+
+lanes-most : (q size : ℕ) → q < 2 → size < sizes → length (decimal (lanesOf q size)) ≤ 2
+unfolding lanesShort
+lanes-most q size hq hs =
+    decimal-short (lanesOf q size) (ltb-true _ _ (at-each 2 (lanesShort size) (at-each sizes (λ s. every 2 (lanesShort s)) lanes-short size hs) q hq))
+
+pub text-length : (f : Fields) → InRange f → length (textOf f) ≤ mostText
+unfolding textOf
+text-length f r = go (familyOf (f .row)) (r .g) (r .m) (r .q)
   where
-    go : (t : Bool) → ltb n 10 ≡ t → length (decimal n) ≤ 2
-    go true e = rw (decimal-one n (ltb-true _ _ e)) (omega arith)
-    go false e = rw (decimal-two n (ltb-false _ _ e)) (omega arith)
+    go : (family : Family) → f .g < 2 ^ governingDigits family → f .m < 2 ^ secondDigits family → f .q < 2 ^ qDigits family
+        → length (nameOf (f .row) ++ bytes " " ++ listed (operandsNamed family f)) ≤ mostText
+    go family hg hm hq =
+        let name = simp length-append at (row-good (f .row) (r .row) .name) in
+        let d = decimal-short (f .d) (lt-of-lt-of-le (r .d) (omega arith)) in
+        let n = decimal-short (f .n) (lt-of-lt-of-le (r .n) (omega arith)) in
+        let g = decimal-short (f .g) (lt-of-lt-of-le (governing-below family hg) (omega arith)) in
+        let m = decimal-short (f .m) (lt-of-lt-of-le (second-below family hm) (omega arith)) in
+        let lanes = lanes-most (f .q) (f .size) (q-below family hq) (r .size) in
+        let whole = lanes-most 1 (f .size) (omega arith) (r .size) in
+        by family name d n g m lanes whole
+      where
+        by : (family : Family) → length (nameOf (f .row)) + 1 ≤ 7 → length (decimal (f .d)) ≤ 2 → length (decimal (f .n)) ≤ 2
+            → length (decimal (f .g)) ≤ 2 → length (decimal (f .m)) ≤ 2 → length (decimal (lanesOf (f .q) (f .size))) ≤ 2
+            → length (decimal (lanesOf 1 (f .size))) ≤ 2
+            → length (nameOf (f .row) ++ bytes " " ++ listed (operandsNamed family f)) ≤ mostText
+        by (Low Reduction) a d n g m l w = simp length-append (omega arith)
+        by (Low Segment) a d n g m l w = simp length-append (omega arith)
+        by (Low Long) a d n g m l w = simp length-append (omega arith)
+        by (Wide Pairwise) a d n g m l w = simp length-append (omega arith)
+        by (Wide Widening) a d n g m l w = simp length-append (omega arith)
 
-pub suffix-most : (s : Suffix) → length (suffixText s) ≤ 4
-suffix-most Plain = omega arith
-suffix-most (Lane size) = omega arith
-suffix-most (Lanes count size) = rw length-append (omega (arith, decimal-most count))
-suffix-most Merging = omega arith
+-- the pieces as a caller has them: each the one of its family, the digits of its field first where it may be missing
+module _ (f : Fields) (family : Family) (is : family ≡ familyOf (f .row)) (o : Operand) (first : o ≡ destinationOperand family f) where
+  pub text-written : (g : ℕ) (p n : Operand) (s : ℕ) (m : Operand) → g ≡ governingDigits family → p ≡ governingOperand family f
+      → n ≡ sourceOperand family (f .n) f → s ≡ secondDigits family → m ≡ sourceOperand family (f .m) f
+      → textOf f ≡ front f o ++ further g p ++ further registerDigits n ++ further s m
+  text-written g p n s m eg ep en es em = rw (first, eg, ep, en, es, em, is) (text-pieces f)
 
-pub operand-most : (o : Operand) → length (operandText o) ≤ 7
-operand-most o = rw length-append (omega (arith, decimal-most (o .number), suffix-most (o .suffix)))
+  -- there is room for each in an output that naming takes
+  module _ (r : InRange f) (room : ℕ) (long : leastOut ≤ room) where
+    pub room-four : (g : ℕ) (p n : Operand) (s : ℕ) (m : Operand) → g ≡ governingDigits family → p ≡ governingOperand family f
+        → n ≡ sourceOperand family (f .n) f → s ≡ secondDigits family → m ≡ sourceOperand family (f .m) f
+        → 0 + length (front f o ++ further g p ++ further registerDigits n ++ further s m) ≤ room
+    room-four g p n s m eg ep en es em =
+        rw (← text-written g p n s m eg ep en es em) (omega (arith, text-length f r))
 
--- pieces written one after the other
-join-two : (a t u : List ℕ) → a ++ (t ++ (u ++ [])) ≡ (a ++ t) ++ u
-join-two a t u = simp (append-assoc, append-nil)
+    pub room-three : (g : ℕ) (p n : Operand) → g ≡ governingDigits family → p ≡ governingOperand family f → n ≡ sourceOperand family (f .n) f
+        → 0 + length (front f o ++ further g p ++ further registerDigits n) ≤ room
+    room-three g p n eg ep en = room-first 0 (front f o ++ further g p ++ further registerDigits n) (further (secondDigits family) (sourceOperand family (f .m) f))
+        (room-four g p n _ _ eg ep en refl refl)
 
-join-three : (a t u v : List ℕ) → a ++ (t ++ (u ++ (v ++ []))) ≡ ((a ++ t) ++ u) ++ v
-join-three a t u v = simp (append-assoc, append-nil)
+    pub room-two : (g : ℕ) (p : Operand) → g ≡ governingDigits family → p ≡ governingOperand family f
+        → 0 + length (front f o ++ further g p) ≤ room
+    room-two g p eg ep = room-first 0 (front f o ++ further g p) (further registerDigits (sourceOperand family (f .n) f)) (room-three g p _ eg ep refl)
 
--- the text of a form with two operands, and with three, as it is written
-module _ (f : Fields) (form : Form) (form-is : form ≡ formOf (f .row)) where
-  pub text-two : (o p : Operand) → hasQ form ≡ true → o ≡ operandAt 0 form f → p ≡ operandAt 1 form f
-      → textOf f ≡ (nameOf (f .row) ++ bytes " " ++ operandText o) ++ (bytes ", " ++ operandText p)
-  unfolding textOf
-  text-two o p q first second =
-      rw (← form-is, first, second)
-      (go form q
-      ∙ join-two (nameOf (f .row) ++ bytes " ") (operandText (operandAt 0 form f)) (bytes ", " ++ operandText (operandAt 1 form f)))
-    where
-      go : (form : Form) → hasQ form ≡ true
-          → nameOf (f .row) ++ bytes " " ++ listed (operandsOf form f) ≡ nameOf (f .row) ++ bytes " " ++ listed (operandAt 0 form f ∷ operandAt 1 form f ∷ [])
-      go (Reduction signed) q = cc
-      go Segment q = cc
-      go (Long signed) q = refl
-      go (Pairwise signed) q = cc
-      go (Widening signed top) q = cc
+    pub room-one : 0 + length (front f o) ≤ room
+    room-one = room-first 0 (front f o) (further (governingDigits family) (governingOperand family f)) (room-two _ _ refl refl)
 
-  pub text-three : (o p q : Operand) → hasQ form ≡ false → o ≡ operandAt 0 form f → p ≡ operandAt 1 form f → q ≡ operandAt 2 form f
-      → textOf f ≡ ((nameOf (f .row) ++ bytes " " ++ operandText o) ++ (bytes ", " ++ operandText p)) ++ (bytes ", " ++ operandText q)
-  unfolding textOf
-  text-three o p q none first second third =
-      rw (← form-is, first, second, third)
-      (go form none
-      ∙ join-three (nameOf (f .row) ++ bytes " ") (operandText (operandAt 0 form f)) (bytes ", " ++ operandText (operandAt 1 form f))
-      (bytes ", " ++ operandText (operandAt 2 form f)))
-    where
-      go : (form : Form) → hasQ form ≡ false
-          → nameOf (f .row) ++ bytes " " ++ listed (operandsOf form f)
-          ≡ nameOf (f .row) ++ bytes " " ++ listed (operandAt 0 form f ∷ operandAt 1 form f ∷ operandAt 2 form f ∷ [])
-      go (Reduction signed) q = refl
-      go Segment q = refl
-      go (Long signed) q = cc
-      go (Pairwise signed) q = refl
-      go (Widening signed top) q = refl
+-- so has a word's, whatever the word is
+pub word-length : (word : ℕ) → length (textOfWord word) ≤ mostText
+word-length word = go (decoded word) refl
+  where
+    go : (d : Decoded) → decoded word ≡ d → length (textOfDecoded d) ≤ mostText
+    go Unknown e = omega arith
+    go Undefined e = omega arith
+    go (Word f) e = text-length f (decoded-in-range word f e)
+
+-- and one has as many
+pub longest-text : textOfWord 0x45DF03FF ≡ bytes "saddlb z31.d, z31.s, z31.s"
+unfolding decoded rowAt rowOf placeFrom matches digitsAnd textOf keyOf nameOf digitOf digitsIn decimalWidth letterOf
+longest-text = refl

@@ -2,12 +2,11 @@
 -- Assumes nothing.
 use mathlib.Core.Path.{_≡_, refl, sym, _∙_, ap}
 use mathlib.Core.List.{List, [], _∷_, _++_}
-use Prim.Native.Nat.{ℕ, suc, _+_, _≤_, _<_}
+use Prim.Native.Nat.{ℕ, suc, _+_, _≤_}
 use native.Mathlib.Nat.{add-zero, zero-add, add-suc, suc-add}
 use native.Mathlib.Omega.{arith}
-use native.Mathlib.Numerals.{add-one}
-use lib.ListN.{length, length-append, getD, take, set}
-use lib.Seq.{sets, length-sets, sets-eq, take-suc, take-at}
+use lib.ListN.{length, length-append, take, set}
+use lib.Seq.{sets, length-sets, sets-eq, take-at}
 use Rattle.names.specs.Named.{Put}
 
 sets-append : (l : List ℕ) (i : ℕ) (p q : List ℕ) → sets l i (p ++ q) ≡ sets (sets l i p) (i + length p) q
@@ -22,24 +21,24 @@ put-then {l} {m} {n} {p} {q} {at} {next} {last} a b =
       after = b .after ∙ rw (length-append p q) (omega (arith, a .after));
     }
 
--- nothing
-pub put-none : (l : List ℕ) (at : ℕ) → Put l at [] l at
-put-none l at = record { bytes = refl; after = sym (add-zero at) }
-
 -- the bytes keep their number
 pub put-length : {l m p : List ℕ} {at next : ℕ} → Put l at p m next → length m ≡ length l
 put-length {l} {m} {p} {at} {next} a = ap length (a .bytes) ∙ length-sets l at p
 
+-- room for two pieces is room for the first, and for the second after it
+pub room-first : (at : ℕ) (p q : List ℕ) {n : ℕ} → at + length (p ++ q) ≤ n → at + length p ≤ n
+room-first at p q h = omega (arith, length-append p q)
+
+pub room-rest : (q : List ℕ) {l m p : List ℕ} {at next : ℕ} → Put l at p m next → at + length (p ++ q) ≤ length l → next + length q ≤ length m
+room-rest q {l} {m} {p} {at} {next} a h = omega (arith, length-append p q, put-length a, a .after)
+
+-- nothing
+pub put-none : (l : List ℕ) (at : ℕ) → Put l at [] l at
+put-none l at = record { bytes = refl; after = sym (add-zero at) }
+
 -- a byte
 pub put-one : (l : List ℕ) (at b : ℕ) → Put l at (b ∷ []) (set l at b) (at + 1)
 put-one l at b = record { bytes = refl; after = refl }
-
--- one byte more of a piece that is being copied
-pub put-more : {l m : List ℕ} (s : List ℕ) (at j : ℕ) → j < length s → Put l at (take j s) m (at + j)
-    → Put l at (take (j + 1) s) (set m (at + j) (getD s j 0)) (at + (j + 1))
-put-more {l} {m} s at j h a =
-    rw (add-one j, take-suc s j 0 h)
-    (rw add-suc (rw add-one at (put-then a (put-one m (at + j) (getD s j 0)))))
 
 -- what was written at the front stands there
 pub put-front : {l m p : List ℕ} {next : ℕ} → length p ≤ length l → Put l 0 p m next → take next m ≡ p

@@ -1,14 +1,14 @@
 -- What naming a word answers, and what it leaves in the output.
 use mathlib.Core.Path.{_≡_}
 use Prim.Native.Nat.{ℕ, _+_}
-use mathlib.Core.Bool.{cond}
-use mathlib.Core.List.{List, [], _∷_, _++_}
-use lib.Dec.{eqb, ltb}
-use lib.ListN.{length, drop}
+use mathlib.Core.List.{List, [], _∷_}
+use lib.Dec.{ltb}
+use lib.ListN.{length}
 use lib.Seq.{sets}
-use Rattle.machine.specs.Refusal.{DONE, UNKNOWN, UNDEFINED, OUT, Test, refused, answer}
+use Rattle.parts.specs.Part.{laid}
+use Rattle.machine.specs.Refusal.{Test, outTest, refused, unlessRefused, answer}
 use Rattle.machine.specs.declared.Answer.{Answer}
-use Rattle.words.specs.Decode.{decoded, numberOf}
+use Rattle.words.specs.Decode.{decoded, wordTests}
 use Rattle.words.specs.declared.Decoded.{Decoded}
 use Rattle.words.specs.declared.Decoded.the-variants.{Unknown, Undefined, Word}
 use Rattle.names.specs.Text.{textOf}
@@ -16,16 +16,6 @@ use Rattle.names.specs.Text.{textOf}
 -- the least output that naming takes
 abbrev pub leastOut : ℕ
 leastOut = 32
-
--- the tests that naming makes: of the output's length, and of the word
-abbrev pub outTest : ℕ → Test
-outTest n = (OUT, ltb n leastOut)
-
-abbrev pub unknownTest : Decoded → Test
-unknownTest w = (UNKNOWN, eqb (numberOf w) UNKNOWN)
-
-abbrev pub undefinedTest : Decoded → Test
-undefinedTest w = (UNDEFINED, eqb (numberOf w) UNDEFINED)
 
 -- the text of a decoded word: none where it is refused
 abbrev pub textOfDecoded : Decoded → List ℕ
@@ -36,22 +26,26 @@ textOfDecoded (Word f) = textOf f
 abbrev pub textOfWord : ℕ → List ℕ
 textOfWord word = textOfDecoded (decoded word)
 
--- the number that naming a word into n bytes answers
-abbrev pub refusal : ℕ → ℕ → ℕ
-refusal n word = refused (outTest n ∷ unknownTest (decoded word) ∷ undefinedTest (decoded word) ∷ [])
+-- the tests of naming a word into n bytes: of the output's length, and of the word
+abbrev pub nameTests : ℕ → ℕ → List Test
+nameTests n word = outTest (ltb n leastOut) ∷ wordTests (decoded word)
+
+-- its refusal: OUT, UNKNOWN, UNDEFINED or DONE
+abbrev pub nameRefused : ℕ → ℕ → ℕ
+nameRefused n word = refused (nameTests n word)
 
 -- what is written: the text where naming is done, else nothing
-abbrev pub written : ℕ → ℕ → List ℕ
-written n word = cond (eqb (refusal n word) DONE) (textOfWord word) []
+abbrev pub nameWritten : ℕ → ℕ → List ℕ
+nameWritten n word = unlessRefused (nameRefused n word) (textOfWord word) []
 
--- bytes with others laid over their front
-abbrev pub laid : List ℕ → List ℕ → List ℕ
-laid piece old = piece ++ drop (length piece) old
+-- the answer of a refusal: its number with 0
+abbrev pub refusedWith : ℕ → Answer
+refusedWith n = record { number = n; value = 0 }
 
 -- naming a word: the answer, and the output's bytes
 pub record Named (word : ℕ) (old new : List ℕ) (r : Answer) : Type 0 where
-  pub answered : r ≡ answer (refusal (length old) word) (length (textOfWord word))
-  pub bytes : new ≡ laid (written (length old) word) old
+  pub answered : r ≡ answer (nameRefused (length old) word) (length (textOfWord word))
+  pub bytes : new ≡ laid (nameWritten (length old) word) old
 
 -- a piece written at a place, and the place after it
 pub record Put (old : List ℕ) (at : ℕ) (piece new : List ℕ) (next : ℕ) : Type 0 where

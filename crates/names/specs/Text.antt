@@ -1,64 +1,46 @@
 -- How a word reads: the name, one space, and the operands, comma and space between them.
-use Prim.Native.Nat.{ℕ, suc, _+_, _*_, _-_, _/_, _%_, _^_}
-use Prim.Native.String.{String}
+use mathlib.Core.Path.{_≡_}
+use Prim.Native.Nat.{ℕ, zero, suc, _+_, _*_, _-_, _/_, _^_}
 use Prim.Native.Char.{code}
-use mathlib.Core.Bool.{Bool, true, false, cond}
+use mathlib.Core.Bool.{cond}
 use mathlib.Core.List.{List, [], _∷_, _++_, map}
-use lib.Dec.{eqb, ltb}
-use lib.ListN.{getD, take}
-use Rattle.machine.specs.Size.{both}
-use Rattle.words.specs.Table.{formOf}
-use Rattle.words.specs.declared.Form.{Form}
-use Rattle.words.specs.declared.Form.the-variants.{Reduction, Segment, Long, Pairwise, Widening}
+use lib.Dec.{eqb}
+use lib.ListN.{getD, take, length}
+use Rattle.parts.specs.Part.{sameBytes}
+use Rattle.words.specs.Text.{bytes}
+use Rattle.words.specs.Table.{nameBytes, table, rowAt, familyOf}
+use Rattle.words.specs.Field.{governingDigits, secondDigits}
+use Rattle.words.specs.declared.Row.{Row}
+use Rattle.words.specs.declared.Family.{Family}
+use Rattle.words.specs.declared.Family.the-variants.{Low, Wide}
+use Rattle.words.specs.declared.LowFamily.the-variants.{Reduction, Segment, Long}
 use Rattle.words.specs.declared.Fields.{Fields}
+use Rattle.names.specs.Digits.{decimal}
 use Rattle.names.specs.declared.Suffix.{Suffix}
 use Rattle.names.specs.declared.Suffix.the-variants.{Plain, Lane, Lanes, Merging}
 use Rattle.names.specs.declared.Operand.{Operand}
 
--- the bytes of a text
-abbrev pub bytes : String → List ℕ
-bytes String.[] = []
-bytes (String._∷_ c s) = code c ∷ bytes s
-
--- the same bytes, by a test
-abbrev pub sameBytes : List ℕ → List ℕ → Bool
-sameBytes [] [] = true
-sameBytes [] (b ∷ l) = false
-sameBytes (a ∷ k) [] = false
-sameBytes (a ∷ k) (b ∷ l) = both (eqb a b) (sameBytes k l)
-
--- the rows' names
-abbrev pub names : List (List ℕ)
-names =
-    bytes "saddv"
-    ∷ bytes "uaddv"
-    ∷ bytes "addqv"
-    ∷ bytes "saddlv"
-    ∷ bytes "uaddlv"
-    ∷ bytes "sadalp"
-    ∷ bytes "uadalp"
-    ∷ bytes "saddlb"
-    ∷ bytes "saddlt"
-    ∷ bytes "uaddlb"
-    ∷ bytes "uaddlt"
-    ∷ []
-
-unfoldable pub nameOf : ℕ → List ℕ
-nameOf row = getD names row []
-
 -- the first six bytes of a text of a row: a name of five letters has its space among them
-abbrev pub keyBytes : ℕ
-keyBytes = 6
-
-abbrev pub key : List ℕ → List ℕ
-key name = take keyBytes (name ++ bytes " ")
-
 unfoldable pub keyOf : ℕ → List ℕ
-keyOf row = key (nameOf row)
+keyOf row = rowAt row .0
+
+-- bytes that are those, six of them
+pub record Key (row : ℕ) (r : List ℕ) : Type 0 where
+  pub is : r ≡ keyOf row
+  pub size : nameBytes ≡ length r
+
+-- bytes up to the first space
+abbrev pub upToSpace : List ℕ → List ℕ
+upToSpace [] = []
+upToSpace (b ∷ l) = cond (eqb b (code " ")) [] (b ∷ upToSpace l)
+
+-- a row's name
+unfoldable pub nameOf : ℕ → List ℕ
+nameOf row = upToSpace (keyOf row)
 
 -- the place of the first key that these bytes are, counted from i; past the last where none is
 abbrev pub keys : List (List ℕ)
-keys = map key names
+keys = map (λ (r : Row). r .0) table
 
 unfoldable pub keyFrom : ℕ → List (List ℕ) → List ℕ → ℕ
 keyFrom i [] bytes = i
@@ -66,19 +48,9 @@ keyFrom i (k ∷ ks) bytes = cond (sameBytes k bytes) i (keyFrom (suc i) ks byte
 
 -- the row that a text's first six bytes name; the number of rows where they name none
 unfoldable pub rowNamed : List ℕ → ℕ
-rowNamed text = keyFrom 0 keys (take keyBytes text)
+rowNamed text = keyFrom 0 keys (take nameBytes text)
 
--- the last decimal digit of a number, and a number below 100 without a leading zero
-abbrev pub digit : ℕ → ℕ
-digit n = code "0" + n % 10
-
-unfoldable pub decimal : ℕ → List ℕ
-decimal n = cond (ltb n 10) (digit n ∷ []) (digit (n / 10) ∷ digit n ∷ [])
-
--- the sizes, and the letter of each
-abbrev pub sizes : ℕ
-sizes = 4
-
+-- the letter of each size
 abbrev pub letters : List ℕ
 letters = bytes "bhsd"
 
@@ -103,41 +75,52 @@ operand l n s = record { letter = l; number = n; suffix = s }
 abbrev pub operandText : Operand → List ℕ
 operandText o = o .letter ∷ decimal (o .number) ++ suffixText (o .suffix)
 
--- the operands of each form
-abbrev pub operandsOf : Form → Fields → List Operand
-operandsOf (Reduction signed) f =
-    operand (code "d") (f .d) Plain ∷ operand (code "p") (f .g) Plain ∷ operand (code "z") (f .n) (Lane (f .size)) ∷ []
-operandsOf Segment f =
-    operand (code "v") (f .d) (Lanes (lanesOf 1 (f .size)) (f .size))
-    ∷ operand (code "p") (f .g) Plain
-    ∷ operand (code "z") (f .n) (Lane (f .size))
-    ∷ []
-operandsOf (Long signed) f =
-    operand (letterOf (f .size + 1)) (f .d) Plain ∷ operand (code "v") (f .n) (Lanes (lanesOf (f .q) (f .size)) (f .size)) ∷ []
-operandsOf (Pairwise signed) f =
-    operand (code "z") (f .d) (Lane (f .size))
-    ∷ operand (code "p") (f .g) Merging
-    ∷ operand (code "z") (f .n) (Lane (f .size - 1))
-    ∷ []
-operandsOf (Widening signed top) f =
-    operand (code "z") (f .d) (Lane (f .size))
-    ∷ operand (code "z") (f .n) (Lane (f .size - 1))
-    ∷ operand (code "z") (f .m) (Lane (f .size - 1))
-    ∷ []
+-- the destination
+abbrev pub destinationOperand : Family → Fields → Operand
+destinationOperand (Low Reduction) f = operand (code "d") (f .d) Plain
+destinationOperand (Low Segment) f = operand (code "v") (f .d) (Lanes (lanesOf 1 (f .size)) (f .size))
+destinationOperand (Low Long) f = operand (letterOf (f .size + 1)) (f .d) Plain
+destinationOperand (Wide wide) f = operand (code "z") (f .d) (Lane (f .size))
 
--- the one at a place
-abbrev pub operandAt : ℕ → Form → Fields → Operand
-operandAt i form f = getD (operandsOf form f) i (operand 0 0 Plain)
+-- the governing predicate
+abbrev pub governingOperand : Family → Fields → Operand
+governingOperand (Low low) f = operand (code "p") (f .g) Plain
+governingOperand (Wide wide) f = operand (code "p") (f .g) Merging
+
+-- a source of a number
+abbrev pub sourceOperand : Family → ℕ → Fields → Operand
+sourceOperand (Low Reduction) number f = operand (code "z") number (Lane (f .size))
+sourceOperand (Low Segment) number f = operand (code "z") number (Lane (f .size))
+sourceOperand (Low Long) number f = operand (code "v") number (Lanes (lanesOf (f .q) (f .size)) (f .size))
+sourceOperand (Wide wide) number f = operand (code "z") number (Lane (f .size - 1))
+
+-- an operand before others, where its field has digits
+abbrev pub whereIn : ℕ → Operand → List Operand → List Operand
+whereIn zero o os = os
+whereIn (suc digits) o os = o ∷ os
+
+-- the operands of a family: the destination, the governing predicate, the source and the second source, those that it has fields for
+abbrev pub operandsNamed : Family → Fields → List Operand
+operandsNamed family f =
+    destinationOperand family f
+    ∷ whereIn (governingDigits family) (governingOperand family f)
+    (sourceOperand family (f .n) f ∷ whereIn (secondDigits family) (sourceOperand family (f .m) f) [])
 
 -- the operands that follow the first, each with a comma and a space before it
 abbrev pub following : List Operand → List ℕ
 following [] = []
 following (o ∷ os) = bytes ", " ++ operandText o ++ following os
 
+-- one of them, where its field has digits
+abbrev pub further : ℕ → Operand → List ℕ
+further zero o = []
+further (suc digits) o = bytes ", " ++ operandText o
+
+-- operands, comma and space between them
 abbrev pub listed : List Operand → List ℕ
 listed [] = []
 listed (o ∷ os) = operandText o ++ following os
 
 -- the text of a word with these fields
 unfoldable pub textOf : Fields → List ℕ
-textOf f = nameOf (f .row) ++ bytes " " ++ listed (operandsOf (formOf (f .row)) f)
+textOf f = nameOf (f .row) ++ bytes " " ++ listed (operandsNamed (familyOf (f .row)) f)

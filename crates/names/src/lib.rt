@@ -1,22 +1,29 @@
 // A word's text: its name and its operands, written into what the caller lends.
+pub mod digits;
 mod row;
 
+use digits::put;
+use digits::put_bytes;
+use digits::put_decimal;
 use machine::Answer;
+use machine::Length;
 use machine::refusal;
-use row::name_of;
+use row::key_of;
 pub use row::row_named;
 use words::Decoded;
+use words::Family;
 use words::Fields;
-use words::Form;
+use words::LowFamily;
 ghost use mathlib.Core.Path.{_≡_};
-ghost use mathlib.Core.List.{[], _∷_, _++_};
+ghost use mathlib.Core.List.{_++_};
 ghost use Prim.Native.Nat.{_+_, _-_, _≤_, _<_};
 ghost use lib.ListN.{length};
+ghost use Rattle.machine.specs.Size.{sizes};
+ghost use Rattle.words.specs.Text.{bytes};
 ghost use Rattle.words.specs.Table.{rows};
-ghost use Rattle.words.specs.Decode.{hasQ};
 ghost use Rattle.words.specs.Encode.{InRange};
-ghost use Rattle.names.specs.Text.{bytes, nameOf, digit, decimal, sizes, letterOf, lanesOf, suffixText, operand, operandText, operandAt, textOf};
-ghost use Rattle.names.specs.Named.{leastOut, Put, Named};
+ghost use Rattle.names.specs.Text.{nameOf, letterOf, lanesOf, suffixText, operand, operandText, further, destinationOperand, governingOperand, sourceOperand, textOf};
+ghost use Rattle.names.specs.Named.{leastOut, Put, refusedWith, Named};
 
 // What follows a register's number: nothing, the lanes' size, their count and size, or that inactive lanes merge.
 pub enum Suffix {
@@ -34,60 +41,20 @@ pub struct Operand {
 }
 
 // The letters of the sizes.
-const LETTERS: [u8; SIZES] = *b"bhsd";
-
-// How many sizes there are.
-pub const SIZES: usize = 4;
+const LETTERS: [u8; Length::SIZES] = *b"bhsd";
 
 // The least output that naming takes.
 pub const LEAST_OUT: usize = 32;
-
-// Writes a byte at a place, and answers the place after it.
-fn put(out: &mut [u8], at: usize, b: u8) -> usize
-    requires { ⌜ at < length (now out) ⌝ }
-    ensures { λ r. ⌜ Put (now (out .entry)) at (b ∷ []) (now (out .exit)) r ⌝ }
-{
-    out[at] = b;
-    at + 1
-}
-
-// Writes bytes from a place on.
-fn put_bytes(out: &mut [u8], at: usize, piece: &[u8]) -> usize
-    requires { ⌜ at + length (now piece) ≤ length (now out) ⌝ }
-    ensures { λ r. ⌜ Put (now (out .entry)) at (now (piece .entry)) (now (out .exit)) r ⌝ }
-{
-    let mut j = 0;
-    while j < piece.len() {
-        out[at + j] = piece[j];
-        j += 1;
-    }
-    at + j
-}
-
-// The last decimal digit of a number.
-fn digit(n: usize) -> u8
-    ensures { λ r. ⌜ r ≡ digit n ⌝ }
-{
-    b'0' + (n % 10) as u8
-}
-
-// Writes a number below 100 in decimal, without a leading zero.
-fn put_decimal(out: &mut [u8], at: usize, n: usize) -> usize
-    requires { ⌜ at + 2 ≤ length (now out) ⌝ }
-    ensures { λ r. ⌜ Put (now (out .entry)) at (decimal n) (now (out .exit)) r ⌝ }
-{
-    if n < 10 {
-        return put(out, at, digit(n));
-    }
-    let next = put(out, at, digit(n / 10));
-    put(out, next, digit(n))
-}
 
 // The letter of a size; 0 past the last.
 fn letter_of(size: usize) -> u8
     ensures { λ r. ⌜ r ≡ letterOf size ⌝ }
 {
-    if size < SIZES { LETTERS[size] } else { 0 }
+    if size < Length::SIZES {
+        LETTERS[size]
+    } else {
+        0
+    }
 }
 
 // How many lanes of a size the low 8 bytes (Q = 0) or 16 bytes (Q = 1) of a register have.
@@ -98,32 +65,32 @@ fn lanes_of(q: usize, size: usize) -> usize
     (8 << q) >> size
 }
 
+// Writes a count of lanes and their size.
+fn put_lanes(out: &mut [u8], at: usize, count: usize, size: usize) -> usize
+    requires { ⌜ at + length (suffixText (Suffix.Lanes count size)) ≤ length (now out) ⌝ }
+    ensures { λ r. ⌜ Put (now (out .entry)) at (suffixText (Suffix.Lanes count size)) (now (out .exit)) r ⌝ }
+{
+    let next = put(out, at, b'.');
+    let last = put_decimal(out, next, count);
+    put(out, last, letter_of(size))
+}
+
 // Writes what follows a register's number.
 fn put_suffix(out: &mut [u8], at: usize, suffix: Suffix) -> usize
-    requires { ⌜ at + 4 ≤ length (now out) ⌝ }
+    requires { ⌜ at + length (suffixText suffix) ≤ length (now out) ⌝ }
     ensures { λ r. ⌜ Put (now (out .entry)) at (suffixText suffix) (now (out .exit)) r ⌝ }
 {
     match suffix {
         Suffix::Plain => at,
-        Suffix::Lane(size) => {
-            let next = put(out, at, b'.');
-            put(out, next, letter_of(size))
-        },
-        Suffix::Lanes(count, size) => {
-            let next = put(out, at, b'.');
-            let last = put_decimal(out, next, count);
-            put(out, last, letter_of(size))
-        },
-        Suffix::Merging => {
-            let next = put(out, at, b'/');
-            put(out, next, b'm')
-        },
+        Suffix::Lane(size) => put_bytes(out, at, &[b'.', letter_of(size)]),
+        Suffix::Lanes(count, size) => put_lanes(out, at, count, size),
+        Suffix::Merging => put_bytes(out, at, b"/m"),
     }
 }
 
 // Writes an operand.
 fn put_operand(out: &mut [u8], at: usize, operand: Operand) -> usize
-    requires { ⌜ at + 7 ≤ length (now out) ⌝ }
+    requires { ⌜ at + length (operandText operand) ≤ length (now out) ⌝ }
     ensures { λ r. ⌜ Put (now (out .entry)) at (operandText operand) (now (out .exit)) r ⌝ }
 {
     let number = put(out, at, operand.letter);
@@ -132,11 +99,14 @@ fn put_operand(out: &mut [u8], at: usize, operand: Operand) -> usize
     put_suffix(out, after, suffix)
 }
 
-// Writes a further operand, with the comma and the space before it.
-fn put_next(out: &mut [u8], at: usize, operand: Operand) -> usize
-    requires { ⌜ at + 9 ≤ length (now out) ⌝ }
-    ensures { λ r. ⌜ Put (now (out .entry)) at (bytes ", " ++ operandText operand) (now (out .exit)) r ⌝ }
+// Writes a further operand, with the comma and the space before it, where its field has digits.
+fn put_further(out: &mut [u8], at: usize, digits: u32, operand: Operand) -> usize
+    requires { ⌜ at + length (further digits operand) ≤ length (now out) ⌝ }
+    ensures { λ r. ⌜ Put (now (out .entry)) at (further digits operand) (now (out .exit)) r ⌝ }
 {
+    if digits == 0 {
+        return at;
+    }
     let next = put_bytes(out, at, b", ");
     put_operand(out, next, operand)
 }
@@ -146,9 +116,9 @@ fn put_name(out: &mut [u8], row: usize) -> usize
     requires { ⌜ (7 ≤ length (now out)) × (row < rows) ⌝ }
     ensures { λ r. ⌜ Put (now (out .entry)) 0 (nameOf row ++ bytes " ") (now (out .exit)) r ⌝ }
 {
-    let name = name_of(row);
-    let next = put_bytes(out, 0, &name);
-    if name[5] == b' ' {
+    let key = key_of(row);
+    let next = put_bytes(out, 0, &key);
+    if key[5] == b' ' {
         next
     } else {
         put(out, next, b' ')
@@ -174,60 +144,44 @@ fn half(size: usize) -> usize
 }
 
 // The destination.
-fn first_operand(form: Form, f: Fields) -> Operand
+fn destination(family: Family, f: Fields) -> Operand
     requires { ⌜ (f .size < sizes) × (f .q < 2) ⌝ }
-    ensures { λ r. ⌜ r ≡ operandAt 0 form f ⌝ }
+    ensures { λ r. ⌜ r ≡ destinationOperand family f ⌝ }
 {
     let size = f.size;
-    match form {
-        Form::Reduction(_) => register(b'd', f.d, Suffix::Plain),
-        Form::Segment => register(b'v', f.d, Suffix::Lanes(lanes_of(1, size), size)),
-        Form::Long(_) => register(letter_of(size + 1), f.d, Suffix::Plain),
-        Form::Pairwise(_) => register(b'z', f.d, Suffix::Lane(size)),
-        Form::Widening(_, _) => register(b'z', f.d, Suffix::Lane(size)),
+    match family {
+        Family::Low(low) => match low {
+            LowFamily::Reduction => register(b'd', f.d, Suffix::Plain),
+            LowFamily::Segment => register(b'v', f.d, Suffix::Lanes(lanes_of(1, size), size)),
+            LowFamily::Long => register(letter_of(size + 1), f.d, Suffix::Plain),
+        },
+        Family::Wide(_) => register(b'z', f.d, Suffix::Lane(size)),
     }
 }
 
-// The governing predicate, or the first source of a form that has none.
-fn second_operand(form: Form, f: Fields) -> Operand
-    requires { ⌜ (f .size < sizes) × (f .q < 2) ⌝ }
-    ensures { λ r. ⌜ r ≡ operandAt 1 form f ⌝ }
+// The governing predicate.
+fn governing(family: Family, f: Fields) -> Operand
+    ensures { λ r. ⌜ r ≡ governingOperand family f ⌝ }
 {
-    let size = f.size;
-    match form {
-        Form::Reduction(_) => register(b'p', f.g, Suffix::Plain),
-        Form::Segment => register(b'p', f.g, Suffix::Plain),
-        Form::Long(_) => register(b'v', f.n, Suffix::Lanes(lanes_of(f.q, size), size)),
-        Form::Pairwise(_) => register(b'p', f.g, Suffix::Merging),
-        Form::Widening(_, _) => register(b'z', f.n, Suffix::Lane(half(size))),
+    match family {
+        Family::Low(_) => register(b'p', f.g, Suffix::Plain),
+        Family::Wide(_) => register(b'p', f.g, Suffix::Merging),
     }
 }
 
-// The last source of a form of three operands.
-fn third_operand(form: Form, f: Fields) -> Operand
+// A source of a number.
+fn source(family: Family, number: usize, f: Fields) -> Operand
     requires { ⌜ (f .size < sizes) × (f .q < 2) ⌝ }
-    ensures { λ r. ⌜ r ≡ operandAt 2 form f ⌝ }
+    ensures { λ r. ⌜ r ≡ sourceOperand family number f ⌝ }
 {
     let size = f.size;
-    match form {
-        Form::Reduction(_) => register(b'z', f.n, Suffix::Lane(size)),
-        Form::Segment => register(b'z', f.n, Suffix::Lane(size)),
-        Form::Long(_) => register(0, 0, Suffix::Plain),
-        Form::Pairwise(_) => register(b'z', f.n, Suffix::Lane(half(size))),
-        Form::Widening(_, _) => register(b'z', f.m, Suffix::Lane(half(size))),
-    }
-}
-
-// Whether a form is a long one, which has two operands.
-fn is_long(form: Form) -> bool
-    ensures { λ r. ⌜ r ≡ hasQ form ⌝ }
-{
-    match form {
-        Form::Reduction(_) => false,
-        Form::Segment => false,
-        Form::Long(_) => true,
-        Form::Pairwise(_) => false,
-        Form::Widening(_, _) => false,
+    match family {
+        Family::Low(low) => match low {
+            LowFamily::Reduction => register(b'z', number, Suffix::Lane(size)),
+            LowFamily::Segment => register(b'z', number, Suffix::Lane(size)),
+            LowFamily::Long => register(b'v', number, Suffix::Lanes(lanes_of(f.q, size), size)),
+        },
+        Family::Wide(_) => register(b'z', number, Suffix::Lane(half(size))),
     }
 }
 
@@ -236,14 +190,22 @@ fn put_text(out: &mut [u8], f: Fields) -> usize
     requires { ⌜ (leastOut ≤ length (now out)) × InRange f ⌝ }
     ensures { λ r. ⌜ Put (now (out .entry)) 0 (textOf f) (now (out .exit)) r ⌝ }
 {
-    let form = words::form_of(f.row);
+    let family = words::family_of(f.row);
     let first = put_name(out, f.row);
-    let second = put_operand(out, first, first_operand(form, f));
-    let third = put_next(out, second, second_operand(form, f));
-    if is_long(form) {
-        return third;
-    }
-    put_next(out, third, third_operand(form, f))
+    let second = put_operand(out, first, destination(family, f));
+    let third = put_further(
+        out,
+        second,
+        words::governing_digits(family),
+        governing(family, f),
+    );
+    let fourth = put_further(out, third, words::REGISTER_DIGITS, source(family, f.n, f));
+    put_further(
+        out,
+        fourth,
+        words::second_digits(family),
+        source(family, f.m, f),
+    )
 }
 
 // A word's text at the front of the output, and its length; bytes past it stay. Refused: OUT, UNKNOWN, UNDEFINED.
@@ -268,7 +230,7 @@ pub fn text(word: u32, out: &mut [u8]) -> Answer
 
 // The answer of a refusal: its number with 0.
 fn refuse(number: u8) -> Answer
-    ensures { λ r. ⌜ (r .number ≡ number) × (r .value ≡ 0) ⌝ }
+    ensures { λ r. ⌜ r ≡ refusedWith number ⌝ }
 {
     Answer { number, value: 0 }
 }

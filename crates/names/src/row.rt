@@ -1,47 +1,32 @@
 // The rows by name: the first six bytes of a text tell its row.
+use words::NAME;
 use words::ROWS;
 ghost use mathlib.Core.Path.{_≡_};
 ghost use Prim.Native.Nat.{_<_};
-ghost use lib.ListN.{length, take};
-ghost use Rattle.words.specs.Table.{rows};
-ghost use Rattle.names.specs.Text.{sameBytes, keyBytes, keyOf, rowNamed};
-
-// The first six bytes of a text of each row: the name, with its space where it has five letters.
-const NAMES: [[u8; KEY]; ROWS] = [
-    *b"saddv ",
-    *b"uaddv ",
-    *b"addqv ",
-    *b"saddlv",
-    *b"uaddlv",
-    *b"sadalp",
-    *b"uadalp",
-    *b"saddlb",
-    *b"saddlt",
-    *b"uaddlb",
-    *b"uaddlt",
-];
-
-// How many bytes tell a text's row.
-const KEY: usize = 6;
+ghost use lib.ListN.{take};
+ghost use Rattle.parts.specs.Part.{sameBytes};
+ghost use Rattle.words.specs.Table.{nameBytes, rows};
+ghost use Rattle.names.specs.Text.{keyOf, rowNamed, Key};
 
 // The first six bytes of a text of a row.
-pub fn name_of(row: usize) -> [u8; KEY]
+pub fn key_of(row: usize) -> [u8; NAME]
     requires { ⌜ row < rows ⌝ }
-    ensures { λ r. ⌜ (r ≡ keyOf row) × (keyBytes ≡ length r) ⌝ }
+    ensures { λ r. ⌜ Key row r ⌝ }
 {
-    NAMES[row]
+    let entry = words::row_at(row);
+    entry.0
 }
 
 // Whether the first six bytes are those of a row.
 fn is_named(text: &[u8], row: usize) -> bool
     requires { ⌜ row < rows ⌝ }
-    ensures { λ r. ⌜ r ≡ sameBytes (keyOf row) (take keyBytes (now (text .entry))) ⌝ }
+    ensures { λ r. ⌜ r ≡ sameBytes (keyOf row) (take nameBytes (now (text .entry))) ⌝ }
 {
-    if text.len() < KEY {
+    if text.len() < NAME {
         return false;
     }
-    let key = name_of(row);
-    check::same(&key, &text[..KEY])
+    let key = key_of(row);
+    check::same(&key, &text[..NAME])
 }
 
 // The row that the first six bytes name, or the number of rows.

@@ -1,56 +1,81 @@
 -- What is drawn of a register: DONE exactly where the length is legal, the files have its sizes and the number is below the count;
 -- then the part is exactly the file's bytes there, and never empty. With a refusal it is empty, at the start of the vector file.
 -- Assumes nothing.
-use Prim.Native.Nat.{ℕ, suc, _+_, _≤_, _<_}
-use mathlib.Core.Path.{_≡_, sym, _∙_, ap}
+use Prim.Native.Nat.{ℕ, suc, _+_, _-_, _≤_, _<_}
+use mathlib.Core.Path.{_≡_, refl, sym, _∙_, ap}
 use mathlib.Core.Logic.{_↔_}
+use mathlib.Core.Bool.{true}
 use mathlib.Core.List.{List, []}
 use denote.Ref.{RefT, now, ptr}
-use lib.ListN.{length, drop, getD, length-drop}
-use lib.Seq.{length-take-le, getD-take, getD-drop}
-use borrow.Author.Tests.{le-leb, lt-leb, eq-eqb}
+use lib.ListN.{length, take, drop, getD}
+use lib.Seq.{getD-take, getD-drop}
+use borrow.Author.Tests.{leb-false, lt-leb, eq-eqb}
+use native.Mathlib.Nat.{add-sub-cancel-left}
 use native.Mathlib.Omega.{arith}
-use Rattle.machine.specs.Refusal.{DONE}
-use Rattle.pane.specs.declared.Kind.{Kind}
-use Rattle.pane.specs.declared.Kind.the-variants.{Vector, Predicate}
-use Rattle.pane.specs.Register.{fileOf, sizeOf, startOf, registerTests, registerRefused, registerPart, registerPlace}
-use Rattle.pane.proofs.Tests.{First, first-exactly, unless-refused}
-use Rattle.pane.proofs.Registers.{Drawn, drawn, within}
+use Rattle.machine.specs.Refusal.{DONE, First, filesTests, inOrder}
+use Rattle.machine.proofs.Tests.{first-none, none-refused, first-exactly, unless-refused}
+use Rattle.machine.proofs.Checks.{legal-least, files-checked}
+use Rattle.registers.specs.declared.Kind.{Kind}
+use Rattle.registers.specs.declared.Kind.the-variants.{Vector, Predicate}
+use Rattle.registers.specs.Register.{fileOf, registerBytes, registerAt, InFile}
+use Rattle.registers.proofs.Places.{in-files, length-register}
+use Rattle.pane.specs.Drawn.{registerTests, registerRefused, Drawable, registerPart, bytesOn, registerPlace}
+
+-- the tests stand in the paper's order
+pub register-in-order : (k : ℕ) (z p : List ℕ) (kind : Kind) (r : ℕ) → inOrder (registerTests k z p kind r) ≡ true
+register-in-order k z p kind r = refl
+
+-- what no refusal tells
+pub drawable : (k : ℕ) (z p : List ℕ) (kind : Kind) (r : ℕ) → registerRefused k z p kind r ≡ DONE → Drawable k z p kind r
+drawable k z p kind r e =
+    record {
+      lent = files-checked k z p _ refl (none-refused (filesTests k (length z) (length p)) tt _ e .0);
+      below = leb-false _ r (first-none (registerTests k z p kind r) tt e .1 .1 .0);
+    }
 
 -- DONE exactly where a register can be drawn
-pub drawn-exactly : (k z p : ℕ) (kind : Kind) (r : ℕ) → registerRefused k z p kind r ≡ DONE ↔ Drawn k z p kind r
+pub drawn-exactly : (k : ℕ) (z p : List ℕ) (kind : Kind) (r : ℕ) → registerRefused k z p kind r ≡ DONE ↔ Drawable k z p kind r
 drawn-exactly k z p kind r = (
-  drawn k z p kind r,
-  λ d. rw (le-leb _ _ (d .least), le-leb _ _ (d .most), eq-eqb _ _ (d .vectors-fit), eq-eqb _ _ (d .predicates-fit), lt-leb _ _ (d .below)),
+  drawable k z p kind r,
+  λ d. rw (d .lent .legal, eq-eqb _ _ (d .lent .vectorSize), eq-eqb _ _ (d .lent .predicateSize), lt-leb _ _ (d .below)),
 )
 
 -- each refusal exactly where its test holds and none before it does
-pub register-refused-exactly : (k z p : ℕ) (kind : Kind) (r n : ℕ) → registerRefused k z p kind r ≡ suc n ↔ First (registerTests k z p kind r) (suc n)
+pub register-refused-exactly : (k : ℕ) (z p : List ℕ) (kind : Kind) (r n : ℕ) → registerRefused k z p kind r ≡ suc n ↔ First (registerTests k z p kind r) (suc n)
 register-refused-exactly k z p kind r n = first-exactly (registerTests k z p kind r) n
 
-module _ (k : ℕ) (z p : List ℕ) (kind : Kind) (r : ℕ) (done : registerRefused k (length z) (length p) kind r ≡ DONE) where
+-- a register that can be drawn lies in its file, and has bytes
+pub in-file : (k : ℕ) (z p : List ℕ) (kind : Kind) (r : ℕ) → Drawable k z p kind r → InFile k kind r (fileOf kind z p)
+in-file k z p kind r d = in-files k z p kind r (d .lent) (d .below)
+
+bytes-some : (k : ℕ) (kind : Kind) → 1 ≤ k → 1 ≤ registerBytes k kind
+bytes-some k Vector h = omega arith
+bytes-some k Predicate h = omega arith
+
+module _ (k : ℕ) (z p : List ℕ) (kind : Kind) (r : ℕ) (done : registerRefused k z p kind r ≡ DONE) where
   -- the part has a register's bytes
-  pub part-length : length (registerPart k z p kind r) ≡ sizeOf k kind
-  part-length =
-      let inside = within k z p kind r (drawn k (length z) (length p) kind r done) in
-      rw done (length-take-le (sizeOf k kind) (drop (startOf k kind r) (fileOf kind z p)) (rw (length-drop (startOf k kind r) (fileOf kind z p)) (omega arith)))
+  pub part-length : length (registerPart k z p kind r) ≡ registerBytes k kind
+  part-length = rw done (length-register k kind r (fileOf kind z p) (in-file k z p kind r (drawable k z p kind r done)))
 
   -- and they are the file's, from the register's start on
-  pub part-byte : (i : ℕ) → i < sizeOf k kind → getD (registerPart k z p kind r) i 0 ≡ getD (fileOf kind z p) (startOf k kind r + i) 0
-  part-byte i h = rw (done, getD-take (sizeOf k kind) (drop (startOf k kind r) (fileOf kind z p)) i 0 h, getD-drop (startOf k kind r) (fileOf kind z p) i 0)
-
--- a register of a legal length has bytes
-size-pos : (k z p : ℕ) (kind : Kind) (r : ℕ) → Drawn k z p kind r → 1 ≤ sizeOf k kind
-size-pos k z p Vector r d = omega (arith, d .least)
-size-pos k z p Predicate r d = omega (arith, d .least)
+  pub part-byte : (i : ℕ) → i < registerBytes k kind → getD (registerPart k z p kind r) i 0 ≡ getD (fileOf kind z p) (registerAt k kind r + i) 0
+  part-byte i h = rw (done, getD-take (registerBytes k kind) (drop (registerAt k kind r) (fileOf kind z p)) i 0 h, getD-drop (registerAt k kind r) (fileOf kind z p) i 0)
 
 -- the part is empty exactly with a refusal
-pub part-empty : (k : ℕ) (z p : List ℕ) (kind : Kind) (r : ℕ) → registerPart k z p kind r ≡ [] ↔ (registerRefused k (length z) (length p) kind r ≡ DONE → ⊥)
+pub part-empty : (k : ℕ) (z p : List ℕ) (kind : Kind) (r : ℕ) → registerPart k z p kind r ≡ [] ↔ (registerRefused k z p kind r ≡ DONE → ⊥)
 part-empty k z p kind r = (
-  λ e done. omega (arith, size-pos k (length z) (length p) kind r (drawn k (length z) (length p) kind r done), sym (part-length k z p kind r done) ∙ ap length e),
+  λ e done. omega (arith, bytes-some k kind (legal-least k (drawable k z p kind r done .lent .legal)), sym (part-length k z p kind r done) ∙ ap length e),
   λ h. unless-refused _ _ _ h,
 )
 
 -- and lies at the start of the vector file
-pub empty-place : (k : ℕ) (z p : RefT (List ℕ)) (kind : Kind) (r : ℕ) → (registerRefused k (length (now z)) (length (now p)) kind r ≡ DONE → ⊥) → registerPlace k z p kind r ≡ ptr z
+pub empty-place : (k : ℕ) (z p : RefT (List ℕ)) (kind : Kind) (r : ℕ) → (registerRefused k (now z) (now p) kind r ≡ DONE → ⊥) → registerPlace k z p kind r ≡ ptr z
 empty-place k z p kind r h = unless-refused _ _ _ h
+
+-- what is drawn where nothing refuses, bytes and place: from the file, the start and the size that are the register's
+pub drawn-from : (k : ℕ) (z p file : RefT (List ℕ)) (kind : Kind) (r s n : ℕ) → registerRefused k (now z) (now p) kind r ≡ DONE
+    → file ≡ fileOf kind z p → s ≡ registerAt k kind r → n ≡ registerBytes k kind
+    → (take (s + n - s) (drop s (now file)) ≡ registerPart k (now z) (now p) kind r)
+    × (bytesOn s (ptr file) ≡ registerPlace k z p kind r)
+drawn-from k z p file Vector r s n done e start size = (rw (done, start, size, e, add-sub-cancel-left), rw (done, start, e))
+drawn-from k z p file Predicate r s n done e start size = (rw (done, start, size, e, add-sub-cancel-left), rw (done, start, e))

@@ -1,3 +1,1 @@
-pub mod Register
-pub mod Word
-pub mod Read
+pub mod Drawn

@@ -1,7 +1,1 @@
-pub mod Digits
 pub mod Reading
-pub mod Part
-pub mod Numerals
-pub mod Lines
-pub mod Outputs
-pub mod Paper

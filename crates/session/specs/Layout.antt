@@ -1,13 +1,14 @@
 -- A session's bytes: mark, version, k and word count, then the vector file, the predicate file and the words, and nothing more.
-use Prim.Native.Nat.{ℕ, zero, suc, _+_, _*_, _-_, _≤_}
+use Prim.Native.Nat.{ℕ, _+_, _*_, _-_, _≤_}
 use mathlib.Core.Path.{_≡_}
-use mathlib.Core.Bool.{Bool, true, not}
+use mathlib.Core.Bool.{Bool, not}
 use mathlib.Core.List.{List, [], _∷_}
 use lib.Dec.{eqb, leb}
-use lib.ListN.{length, getD, take, drop}
-use Rattle.machine.specs.Size.{both, leastLength, mostLength, isLegal, vectorFile, predicateFile, wordBytes, mostWords}
-use Rattle.machine.specs.Refusal.{DONE, SESSION, Test, refused}
-use Rattle.lanes.specs.Bytes.{number}
+use lib.ListN.{length}
+use Rattle.parts.specs.Part.{both, part, sameBytes}
+use Rattle.parts.specs.Number.{numberAt}
+use Rattle.machine.specs.Size.{leastLength, mostLength, isLegal, vectorFile, predicateFile, wordBytes, mostWords, Files}
+use Rattle.machine.specs.Refusal.{DONE, SESSION, Test, test, refused, unlessRefused}
 use Rattle.session.specs.declared.Session.{Session}
 
 -- the mark `LNW`, and the version
@@ -17,38 +18,48 @@ mark = 76 ∷ 78 ∷ 87 ∷ []
 abbrev pub version : ℕ
 version = 1
 
+-- the bytes of the mark, of the version, of k and of the count
+abbrev pub markBytes : ℕ
+markBytes = 3
+
+abbrev pub versionBytes : ℕ
+versionBytes = 2
+
+abbrev pub lengthBytes : ℕ
+lengthBytes = 1
+
+abbrev pub countBytes : ℕ
+countBytes = 2
+
 -- where the version, k and the count stand, and the bytes before the vector file
 abbrev pub versionAt : ℕ
-versionAt = 3
+versionAt = markBytes
 
 abbrev pub lengthAt : ℕ
-lengthAt = 5
+lengthAt = versionAt + versionBytes
 
 abbrev pub countAt : ℕ
-countAt = 6
+countAt = lengthAt + lengthBytes
 
-abbrev pub headerBytes : ℕ
-headerBytes = 8
+abbrev pub sessionHeader : ℕ
+sessionHeader = countAt + countBytes
 
--- the bytes start with the mark
-abbrev pub hasMark : List ℕ → Bool
-hasMark bytes =
-    both (eqb (getD bytes 0 0) (getD mark 0 0))
-    (both (eqb (getD bytes 1 0) (getD mark 1 0)) (eqb (getD bytes 2 0) (getD mark 2 0)))
+-- the mark, the version, k and the count that the header gives
+abbrev pub sessionMark : List ℕ → List ℕ
+sessionMark bytes = part 0 markBytes bytes
 
--- the version, k and the count that the header gives
-abbrev pub versionOf : List ℕ → ℕ
-versionOf bytes = number (take 2 (drop versionAt bytes))
+abbrev pub sessionVersion : List ℕ → ℕ
+sessionVersion bytes = numberAt versionAt versionBytes bytes
 
-abbrev pub lengthOf : List ℕ → ℕ
-lengthOf bytes = getD bytes lengthAt 0
+abbrev pub sessionLength : List ℕ → ℕ
+sessionLength bytes = numberAt lengthAt lengthBytes bytes
 
-abbrev pub countOf : List ℕ → ℕ
-countOf bytes = number (take 2 (drop countAt bytes))
+abbrev pub wordCount : List ℕ → ℕ
+wordCount bytes = numberAt countAt countBytes bytes
 
 -- where the predicate file and the words start, and where the words end
 abbrev pub predicatesAt : ℕ → ℕ
-predicatesAt k = headerBytes + vectorFile k
+predicatesAt k = sessionHeader + vectorFile k
 
 abbrev pub programAt : ℕ → ℕ
 programAt k = predicatesAt k + predicateFile k
@@ -60,65 +71,72 @@ endAt k count = programAt k + wordBytes * count
 abbrev pub mostSession : ℕ
 mostSession = endAt mostLength mostWords
 
--- a session: mark, version, k, count and total length are right
+-- the mark and the version are right
+abbrev pub isHeaded : List ℕ → Bool
+isHeaded bytes = both (sameBytes (sessionMark bytes) mark) (eqb (sessionVersion bytes) version)
+
+-- k is legal, the words are not too many, and a session of both has n bytes
+abbrev pub isSized : ℕ → ℕ → ℕ → Bool
+isSized k count n = both (isLegal k) (both (leb count mostWords) (eqb n (endAt k count)))
+
+-- a session: there is a header, and mark, version, k, count and total length are right
 abbrev pub isSession : List ℕ → Bool
 isSession bytes =
-    both (hasMark bytes)
-    (both (eqb (versionOf bytes) version)
-    (both (isLegal (lengthOf bytes))
-    (both (leb (countOf bytes) mostWords) (eqb (length bytes) (endAt (lengthOf bytes) (countOf bytes))))))
+    both (leb sessionHeader (length bytes)) (both (isHeaded bytes) (isSized (sessionLength bytes) (wordCount bytes) (length bytes)))
 
-abbrev pub sessionTest : List ℕ → Test
-sessionTest bytes = (SESSION, not (isSession bytes))
+-- the one test of bytes read as a session, and its refusal
+abbrev pub sessionTests : List ℕ → List Test
+sessionTests bytes = test SESSION (not (isSession bytes)) ∷ []
 
 abbrev pub sessionRefused : List ℕ → ℕ
-sessionRefused bytes = refused (sessionTest bytes ∷ [])
+sessionRefused bytes = refused (sessionTests bytes)
 
--- a refusal with zeros, or the length, the count, and where each part starts and the last ends
-abbrev pub told : ℕ → ℕ → ℕ → Session
-told zero k count =
+-- the length, the count, and where each part of a session starts and the last ends
+abbrev pub placed : ℕ → ℕ → Session
+placed k count =
     record {
       number = DONE;
       k = k;
       count = count;
-      vectors = headerBytes;
+      vectors = sessionHeader;
       predicates = predicatesAt k;
       program = programAt k;
       end = endAt k count;
     }
-told (suc n) k count = record { number = suc n; k = 0; count = 0; vectors = 0; predicates = 0; program = 0; end = 0 }
+
+-- what is answered for other bytes
+abbrev pub noSession : Session
+noSession = record { number = SESSION; k = 0; count = 0; vectors = 0; predicates = 0; program = 0; end = 0 }
 
 -- what some bytes are, read as a session
 unfoldable pub sessionOf : List ℕ → Session
-sessionOf bytes = told (sessionRefused bytes) (lengthOf bytes) (countOf bytes)
+sessionOf bytes = unlessRefused (sessionRefused bytes) (placed (sessionLength bytes) (wordCount bytes)) noSession
 
--- the parts of some bytes that a session tells of
+-- the parts of some bytes that a session names
 abbrev pub vectorPart : Session → List ℕ → List ℕ
-vectorPart s bytes = take (s .predicates - s .vectors) (drop (s .vectors) bytes)
+vectorPart s bytes = part (s .vectors) (s .predicates - s .vectors) bytes
 
 abbrev pub predicatePart : Session → List ℕ → List ℕ
-predicatePart s bytes = take (s .program - s .predicates) (drop (s .predicates) bytes)
+predicatePart s bytes = part (s .predicates) (s .program - s .predicates) bytes
 
 abbrev pub programPart : Session → List ℕ → List ℕ
-programPart s bytes = take (s .end - s .program) (drop (s .program) bytes)
+programPart s bytes = part (s .program) (s .end - s .program) bytes
 
 -- bytes that are a session, in the paper's words
 pub record IsSession (bytes : List ℕ) : Type 0 where
-  pub marked : take versionAt bytes ≡ mark
-  pub versioned : versionOf bytes ≡ version
-  pub least : leastLength ≤ lengthOf bytes
-  pub most : lengthOf bytes ≤ mostLength
-  pub few : countOf bytes ≤ mostWords
-  pub whole : length bytes ≡ endAt (lengthOf bytes) (countOf bytes)
+  pub marked : sessionMark bytes ≡ mark
+  pub versioned : sessionVersion bytes ≡ version
+  pub least : leastLength ≤ sessionLength bytes
+  pub most : sessionLength bytes ≤ mostLength
+  pub few : wordCount bytes ≤ mostWords
+  pub whole : length bytes ≡ endAt (sessionLength bytes) (wordCount bytes)
 
 -- parts that lie one after the other in the bytes, and have the sizes of a legal length and of a program
 pub record Parts (bytes : List ℕ) (s : Session) : Type 0 where
-  pub legal : isLegal (s .k) ≡ true
   pub starts : s .vectors ≤ s .predicates
   pub middle : s .predicates ≤ s .program
   pub ends : s .program ≤ s .end
   pub whole : s .end ≡ length bytes
-  pub vector-size : length (vectorPart s bytes) ≡ vectorFile (s .k)
-  pub predicate-size : length (predicatePart s bytes) ≡ predicateFile (s .k)
+  pub files : Files (s .k) (vectorPart s bytes) (predicatePart s bytes)
   pub program-size : length (programPart s bytes) ≡ wordBytes * s .count
   pub few : s .count ≤ mostWords

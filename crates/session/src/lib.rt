@@ -1,15 +1,11 @@
-// The walk program's input and output as functions on slices: a session's bytes are read here, and a line is written in `line`.
+// A session, as the walk program takes it from its input: its bytes read into the places of its parts.
 ghost use mathlib.Core.Path.{_≡_};
 ghost use Prim.Native.Nat.{_≤_};
 ghost use lib.ListN.{length};
-ghost use Rattle.session.specs.Layout.{headerBytes, hasMark, versionOf, countOf, told, sessionOf};
+ghost use Rattle.session.specs.Layout.{sessionHeader, isHeaded, isSized, placed as placedAt, noSession, sessionOf};
 ghost use Rattle.machine.specs.Size.{mostLength, mostWords};
-ghost use Rattle.machine.specs.Refusal.{DONE, SESSION};
 use machine::Length;
 use machine::refusal;
-
-pub mod line;
-pub mod output;
 
 // A session's length and count, and where in its bytes the vector file, the predicate file and the program start, and the program
 // ends; with a refusal, zeros.
@@ -28,72 +24,45 @@ pub const MARK: [u8; 3] = *b"LNW";
 
 pub const VERSION: u64 = 1;
 
-// Where the version, k and the count stand; the bytes of the version and of the count, and those before the vector file.
-pub const VERSION_AT: usize = 3;
+// The bytes of the mark and of the fields after it: the version, k and the count.
+pub const MARK_BYTES: usize = 3;
 
-pub const LENGTH_AT: usize = 5;
+pub const VERSION_BYTES: usize = 2;
 
-pub const COUNT_AT: usize = 6;
+pub const LENGTH_BYTES: usize = 1;
 
-pub const FIELD: usize = 2;
+pub const COUNT_BYTES: usize = 2;
 
-pub const HEADER: usize = COUNT_AT + FIELD;
+// Where each field stands, and the bytes before the vector file.
+pub const VERSION_AT: usize = MARK_BYTES;
+
+pub const LENGTH_AT: usize = VERSION_AT + VERSION_BYTES;
+
+pub const COUNT_AT: usize = LENGTH_AT + LENGTH_BYTES;
+
+pub const HEADER: usize = COUNT_AT + COUNT_BYTES;
 
 // The bytes of the longest session.
 pub const MOST_SESSION: usize = HEADER
-    + Length::VECTORS * Length::VECTOR_UNIT * Length::MOST
-    + Length::PREDICATES * Length::PREDICATE_UNIT * Length::MOST
+    + Length::VECTORS * Length::MOST_BYTES
+    + Length::PREDICATES * Length::SEGMENT_PREDICATE * Length::MOST
     + Length::WORD_BYTES * Length::MOST_WORDS;
 
-// Whether the bytes start with the mark.
-fn has_mark(bytes: &[u8]) -> bool
-    requires { ⌜ headerBytes ≤ length (now bytes) ⌝ }
-    ensures { λ r. ⌜ r ≡ hasMark (now (bytes .entry)) ⌝ }
+// Whether the bytes start with the mark and the version.
+fn is_headed(bytes: &[u8]) -> bool
+    requires { ⌜ sessionHeader ≤ length (now bytes) ⌝ }
+    ensures { λ r. ⌜ r ≡ isHeaded (now (bytes .entry)) ⌝ }
 {
-    if bytes[0] != MARK[0] {
+    if !check::same(&bytes[..MARK_BYTES], &MARK) {
         return false;
     }
-    if bytes[1] != MARK[1] {
-        return false;
-    }
-    bytes[2] == MARK[2]
-}
-
-// The version, which is the first field of two bytes past the mark.
-fn version_of(bytes: &[u8]) -> u64
-    requires { ⌜ headerBytes ≤ length (now bytes) ⌝ }
-    ensures { λ r. ⌜ r ≡ versionOf (now (bytes .entry)) ⌝ }
-{
-    lanes::lane(&bytes[VERSION_AT..], FIELD, 0)
-}
-
-// The count of words, which is the lane of two bytes before the vector file.
-fn count_of(bytes: &[u8]) -> usize
-    requires { ⌜ headerBytes ≤ length (now bytes) ⌝ }
-    ensures { λ r. ⌜ r ≡ countOf (now (bytes .entry)) ⌝ }
-{
-    lanes::lane(bytes, FIELD, COUNT_AT / FIELD) as usize
-}
-
-// A refused session.
-fn refuse() -> Session
-    ensures { λ r. ⌜ r ≡ told SESSION 0 0 ⌝ }
-{
-    Session {
-        number: refusal::SESSION,
-        k: 0,
-        count: 0,
-        vectors: 0,
-        predicates: 0,
-        program: 0,
-        end: 0,
-    }
+    parts::number_at(bytes, VERSION_AT, VERSION_BYTES) == VERSION
 }
 
 // A session of this length and count, and where its parts lie.
 fn placed(k: usize, count: usize) -> Session
     requires { ⌜ (k ≤ mostLength) × (count ≤ mostWords) ⌝ }
-    ensures { λ r. ⌜ r ≡ told DONE k count ⌝ }
+    ensures { λ r. ⌜ r ≡ placedAt k count ⌝ }
 {
     let length = Length { k };
     let predicates = HEADER + length.vector_file();
@@ -109,6 +78,35 @@ fn placed(k: usize, count: usize) -> Session
     }
 }
 
+// Whether the length is legal, the words are not too many, and a session of both has n bytes.
+fn is_sized(k: usize, count: usize, n: usize) -> bool
+    ensures { λ r. ⌜ r ≡ isSized k count n ⌝ }
+{
+    let length = Length { k };
+    if !length.is_legal() {
+        return false;
+    }
+    if Length::MOST_WORDS < count {
+        return false;
+    }
+    n == placed(k, count).end
+}
+
+// A refused session.
+fn refuse() -> Session
+    ensures { λ r. ⌜ r ≡ noSession ⌝ }
+{
+    Session {
+        number: refusal::SESSION,
+        k: 0,
+        count: 0,
+        vectors: 0,
+        predicates: 0,
+        program: 0,
+        end: 0,
+    }
+}
+
 // Reads bytes as a session: where its parts lie, or SESSION.
 pub fn read_session(bytes: &[u8]) -> Session
     ensures { λ r. ⌜ r ≡ sessionOf (now (bytes .entry)) ⌝ }
@@ -116,24 +114,13 @@ pub fn read_session(bytes: &[u8]) -> Session
     if bytes.len() < HEADER {
         return refuse();
     }
-    if !has_mark(bytes) {
+    if !is_headed(bytes) {
         return refuse();
     }
-    if version_of(bytes) != VERSION {
+    let k = parts::number_at(bytes, LENGTH_AT, LENGTH_BYTES) as usize;
+    let count = parts::number_at(bytes, COUNT_AT, COUNT_BYTES) as usize;
+    if !is_sized(k, count, bytes.len()) {
         return refuse();
     }
-    let k = bytes[LENGTH_AT] as usize;
-    let length = Length { k };
-    if !length.is_legal() {
-        return refuse();
-    }
-    let count = count_of(bytes);
-    if Length::MOST_WORDS < count {
-        return refuse();
-    }
-    let session = placed(k, count);
-    if bytes.len() != session.end {
-        return refuse();
-    }
-    session
+    placed(k, count)
 }

@@ -1,23 +1,22 @@
--- What the calls' answers are: each is determined by its contract; a subtotal of no lanes is 0, and that of all lanes is the sum in lane order.
+-- What the calls' answers are: each is determined by its contract and each refusal comes exactly in its case; a subtotal of no lanes is 0,
+-- and that of all lanes is the sum in lane order.
 -- Assumes nothing.
 use Prim.Native.Nat.{ℕ, zero, suc, _/_}
-use mathlib.Core.Path.{_≡_, refl, sym, _∙_, ap}
-use mathlib.Core.Bool.{Bool}
+use mathlib.Core.Path.{_≡_, refl, _∙_, ap}
+use mathlib.Core.Logic.{_↔_}
+use mathlib.Core.Bool.{Bool, true}
 use mathlib.Core.List.{List}
 use native.Mathlib.Omega.{arith}
 use borrow.Author.Tests.{le-leb}
-use Rattle.machine.specs.Size.{vectorBytes, vectorOf, predicateOf}
-use Rattle.machine.specs.Refusal.{DONE, answer}
+use Rattle.machine.specs.Size.{vectorBytes}
+use Rattle.registers.specs.Register.{vectorOf, predicateOf}
+use Rattle.machine.specs.Refusal.{DONE, First, inOrder, answer}
 use Rattle.machine.specs.declared.Answer.{Answer}
+use Rattle.machine.proofs.Tests.{first-exactly, one-result, refused-later}
 use Rattle.lanes.specs.Lane.{widthOf}
 use Rattle.sums.specs.Sums.{laneSum}
-use Rattle.sums.specs.Calls.{panelRefused, panelAnswer, subtotalRefused, subtotalAnswer}
+use Rattle.sums.specs.Calls.{panelTests, panelRefused, panelAnswer, subtotalTests, subtotalRefused, subtotalAnswer}
 use Rattle.sums.proofs.Ranges.{sum-none}
-use Rattle.sums.proofs.Accepted.{subtotal-last}
-
--- two results of one contract are the same
-determined : {A : Type 0} {x r s : A} → r ≡ x → s ≡ x → r ≡ s
-determined e f = e ∙ sym f
 
 -- with 0 as the value, an answer's value is 0
 zero-value : (n v : ℕ) → v ≡ 0 → answer n v .value ≡ 0
@@ -25,18 +24,32 @@ zero-value zero v e = e
 zero-value (suc n) v e = refl
 
 module _ (k : ℕ) (z p : List ℕ) (source predicate size : ℕ) where
+  -- the refusals of a panel: each exactly in its case, in the paper's order
+  pub panel-exactly : (n : ℕ) → panelRefused k z p source predicate size ≡ suc n ↔ First (panelTests k z p source predicate size) (suc n)
+  panel-exactly = first-exactly (panelTests k z p source predicate size)
+
+  pub panel-in-order : inOrder (panelTests k z p source predicate size) ≡ true
+  panel-in-order = refl
+
+  -- those of a subtotal
+  pub subtotal-exactly : (a b n : ℕ) → subtotalRefused k z p source predicate size a b ≡ suc n ↔ First (subtotalTests k z p source predicate size a b) (suc n)
+  subtotal-exactly a b = first-exactly (subtotalTests k z p source predicate size a b)
+
+  pub subtotal-in-order : (a b : ℕ) → inOrder (subtotalTests k z p source predicate size a b) ≡ true
+  subtotal-in-order a b = refl
+
   pub panel-refusal-determined : {r s : ℕ} → r ≡ panelRefused k z p source predicate size → s ≡ panelRefused k z p source predicate size → r ≡ s
-  panel-refusal-determined = determined
+  panel-refusal-determined = one-result _ _ _
 
   pub panel-determined : {r s : List (List ℕ)} → r ≡ panelAnswer k z p source predicate size → s ≡ panelAnswer k z p source predicate size → r ≡ s
-  panel-determined = determined
+  panel-determined = one-result _ _ _
 
   module _ (signed : Bool) where
     pub subtotal-determined : (a b : ℕ) {r s : Answer}
         → r ≡ subtotalAnswer k z p source predicate size signed a b
         → s ≡ subtotalAnswer k z p source predicate size signed a b
         → r ≡ s
-    subtotal-determined a b = determined
+    subtotal-determined a b = one-result _ _ _
 
     -- a = b gives 0
     pub subtotal-of-none : (a : ℕ) → subtotalAnswer k z p source predicate size signed a a .value ≡ 0
@@ -55,5 +68,5 @@ module _ (k : ℕ) (z p : List ℕ) (source predicate size : ℕ) where
       where
         done : subtotalRefused k z p source predicate size 0 (vectorBytes k / widthOf size) ≡ DONE
         done =
-            subtotal-last k z p source predicate size 0 (vectorBytes k / widthOf size) h
+            refused-later (panelTests k z p source predicate size) tt _ _ refl h
             ∙ rw (le-leb 0 (vectorBytes k / widthOf size) (omega arith), le-leb (vectorBytes k / widthOf size) (vectorBytes k / widthOf size) (omega arith))

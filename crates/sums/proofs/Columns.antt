@@ -4,20 +4,21 @@ use Prim.Native.Nat.{ℕ, zero, suc, _+_, _*_, _-_, _/_, _%_, _^_, _≤_, _<_}
 use mathlib.Core.Path.{_≡_, refl, sym, _∙_, ap, ap₂}
 use mathlib.Core.Bool.{Bool, true, false, cond}
 use mathlib.Core.List.{List, [], _∷_, _++_, append-nil}
-use native.Mathlib.Nat.{zero-add, suc-add, add-zero, sub-zero, zero-sub, suc-sub-suc, add-assoc, mod-add-mod, add-mod-mod}
+use native.Mathlib.Nat.{zero-add, suc-add, add-zero, add-assoc, mod-add-mod, add-mod-mod}
 use native.Mathlib.Numerals.{add-one}
 use native.Mathlib.Omega.{arith}
-use lib.ListN.{length, take, drop, getD, replicate}
+use lib.ListN.{length, take, getD, replicate}
 use lib.Seq.{take-suc}
 use lib.IntN.{pos}
 use Rattle.machine.specs.Size.{segmentBytes, mostLength}
-use Rattle.lanes.specs.Bytes.{number, bytesOf}
-use Rattle.lanes.specs.Lane.{lane, active, fromLanes, bitsOf}
+use Rattle.parts.specs.Number.{number, bytesOf, bitsOf}
+use Rattle.parts.proofs.Numbers.{drop-replicate}
+use Rattle.lanes.specs.Lane.{lane, active, fromLanes}
 use Rattle.lanes.specs.Integer.{residue}
-use Rattle.lanes.specs.Sum.{counted, exactSum}
+use Rattle.lanes.specs.Sum.{each, counted, total}
 use Rattle.lanes.proofs.Residues.{residue-sum}
-use Rattle.lanes.proofs.Written.{read-lane, bytes-residue}
-use Rattle.sums.specs.Panel.{perSegment, WholeSegments, panelLane, panelRow, panelFrom, panelOf, column, columnSum, placeSum, rowsSum}
+use Rattle.lanes.proofs.Written.{read-lane, bytes-residue, same-lanes}
+use Rattle.sums.specs.Panel.{perSegment, WholeSegments, panelLane, panelRow, panelFrom, panelOf, columnElement, columnSum, placeSum, rowsSum}
 use Rattle.sums.proofs.Panels.{noRow, panel-row, panel-past}
 
 -- the sum of rows that follow others
@@ -45,26 +46,14 @@ number-zeros zero n = refl
 number-zeros (suc w) zero = refl
 number-zeros (suc w) (suc n) = rw (number-zeros w n)
 
-drop-zeros : (j n : ℕ) → drop {A = ℕ} j (replicate n 0) ≡ replicate (n - j) 0
-drop-zeros zero n = rw (sub-zero n)
-drop-zeros (suc j) zero = rw (zero-sub (suc j))
-drop-zeros (suc j) (suc n) = rw (suc-sub-suc n j) (drop-zeros j n)
-
 place-zeros : (w e n : ℕ) → placeSum w e (replicate n noRow) ≡ 0
 place-zeros w e zero = refl
 place-zeros w e (suc n) =
     rw (place-zeros w e n, add-zero (lane w e noRow))
-    (ap (λ (l : List ℕ). number (take w l)) (drop-zeros (e * w) segmentBytes) ∙ number-zeros w (segmentBytes - e * w))
+    (ap (λ (l : List ℕ). number (take w l)) (drop-replicate (e * w) segmentBytes 0) ∙ number-zeros w (segmentBytes - e * w))
 
--- lanes that hold the same, side by side
-pub same-lanes : (w e n : ℕ) (f g : ℕ → ℕ) → ((i : ℕ) → e ≤ i → i < e + n → f i ≡ g i) → fromLanes w e n f ≡ fromLanes w e n g
-same-lanes w e zero f g h = refl
-same-lanes w e (suc n) f g h =
-    ap₂ _++_ (ap (bytesOf w) (h e (omega arith) (omega arith)))
-    (same-lanes w (suc e) n f g (λ i l k. h i (omega arith) (omega arith)))
-
--- the low digits of what a lane counts
-counted-residue : (D : ℕ) (t : Bool) (n : ℕ) → residue D (counted false D (t, n)) ≡ cond t n 0 % 2 ^ D
+-- the low digits of what a lane adds
+counted-residue : (D : ℕ) (t : Bool) (n : ℕ) → residue D (counted t (pos n)) ≡ cond t n 0 % 2 ^ D
 counted-residue D true n = refl
 counted-residue D false n = refl
 
@@ -79,7 +68,7 @@ module _ (w : ℕ) (predicate register : List ℕ) where
   -- rows from segment s on, m of them the register's, add up to the column of m lanes
   rows-column : (e : ℕ) → e < perSegment w → (s m j : ℕ) → (s + m) * segmentBytes ≡ length register
       → placeSum w e (panelFrom w predicate register s (m + j)) % 2 ^ bitsOf w
-      ≡ residue (bitsOf w) (exactSum false (bitsOf w) (column w e s m predicate register))
+      ≡ residue (bitsOf w) (total (each (columnElement w predicate register e) s m))
   rows-column e h s zero j k =
       ap (λ (n : ℕ). placeSum w e (panelFrom w predicate register s n) % 2 ^ bitsOf w) (zero-add j)
       ∙ ap (λ (rows : List (List ℕ)). placeSum w e rows % 2 ^ bitsOf w) (panel-past w predicate register s j (omega arith))
@@ -91,7 +80,7 @@ module _ (w : ℕ) (predicate register : List ℕ) where
       ∙ ap₂ (λ (a b : ℕ). (a + b) % M)
       (sym (counted-residue (bitsOf w) (active w (s * perSegment w + e) predicate) (lane w (s * perSegment w + e) register)))
       (rows-column e h (suc s) m j (omega arith))
-      ∙ sym (residue-sum (bitsOf w) (counted false (bitsOf w) (active w (s * perSegment w + e) predicate, lane w (s * perSegment w + e) register)) (exactSum false (bitsOf w) (column w e (suc s) m predicate register)))
+      ∙ sym (residue-sum (bitsOf w) (columnElement w predicate register e s) (total (each (columnElement w predicate register e) (suc s) m)))
     where
       M : ℕ
       M = 2 ^ bitsOf w

@@ -1,13 +1,15 @@
 -- What the calls for the panel and for a subtotal answer, for every input.
-use Prim.Native.Nat.{ℕ, zero, suc, _/_}
+use Prim.Native.Nat.{ℕ, _+_, _*_, _/_}
 use mathlib.Core.Bool.{Bool, not}
-use mathlib.Core.List.{List, [], _∷_}
+use mathlib.Core.List.{List, [], _∷_, _++_}
 use lib.Dec.{ltb, leb}
 use lib.ListN.{length}
-use Rattle.machine.specs.Size.{both, vectors, governing, vectorBytes, vectorOf, predicateOf}
-use Rattle.machine.specs.Refusal.{refused, lengthTest, fileTest, rangeTest, answer}
+use Rattle.machine.specs.Size.{vectors, governing, sizes, vectorBytes}
+use Rattle.registers.specs.Register.{vectorOf, predicateOf}
+use Rattle.parts.specs.Part.{both}
+use Rattle.machine.specs.Refusal.{RANGE, Test, testAt, refused, filesTests, rangeTest, unlessRefused, answer}
 use Rattle.machine.specs.declared.Answer.{Answer}
-use Rattle.lanes.specs.Lane.{sizes, widthOf}
+use Rattle.lanes.specs.Lane.{widthOf}
 use Rattle.sums.specs.Sums.{laneSum}
 use Rattle.sums.specs.Panel.{panelOf, noPanel}
 
@@ -15,32 +17,30 @@ use Rattle.sums.specs.Panel.{panelOf, noPanel}
 abbrev pub inRange : ℕ → ℕ → ℕ → Bool
 inRange source predicate size = both (ltb source vectors) (both (ltb predicate governing) (ltb size sizes))
 
--- the refusal of a panel
-abbrev pub panelRefused : ℕ → List ℕ → List ℕ → ℕ → ℕ → ℕ → ℕ
-panelRefused k z p source predicate size =
-    refused (lengthTest k ∷ fileTest k (length z) (length p) ∷ rangeTest (not (inRange source predicate size)) ∷ [])
+-- the tests of a panel, and its refusal: LENGTH, FILE, RANGE or DONE
+abbrev pub panelTests : ℕ → List ℕ → List ℕ → ℕ → ℕ → ℕ → List Test
+panelTests k z p source predicate size =
+    filesTests k (length z) (length p) ++ rangeTest (not (inRange source predicate size)) ∷ []
 
-abbrev pub pickPanel : ℕ → List (List ℕ) → List (List ℕ)
-pickPanel zero rows = rows
-pickPanel (suc n) rows = noPanel
+abbrev pub panelRefused : ℕ → List ℕ → List ℕ → ℕ → ℕ → ℕ → ℕ
+panelRefused k z p source predicate size = refused (panelTests k z p source predicate size)
 
 -- the panel, or zeros where it is refused
 abbrev pub panelAnswer : ℕ → List ℕ → List ℕ → ℕ → ℕ → ℕ → List (List ℕ)
 panelAnswer k z p source predicate size =
-    pickPanel (panelRefused k z p source predicate size) (panelOf (widthOf size) (predicateOf k predicate p) (vectorOf k source z))
+    unlessRefused (panelRefused k z p source predicate size) (panelOf (widthOf size) (predicateOf k predicate p) (vectorOf k source z)) noPanel
 
 -- a range of lanes that the register has
 abbrev pub laneRange : ℕ → ℕ → ℕ → ℕ → Bool
 laneRange k size a b = both (leb a b) (leb b (vectorBytes k / widthOf size))
 
--- the refusal of a subtotal
+-- the tests of a subtotal, which are those of a panel and the range of its lanes, and its refusal: LENGTH, FILE, RANGE or DONE
+abbrev pub subtotalTests : ℕ → List ℕ → List ℕ → ℕ → ℕ → ℕ → ℕ → ℕ → List Test
+subtotalTests k z p source predicate size a b =
+    panelTests k z p source predicate size ++ testAt (10 * RANGE + 1) RANGE (not (laneRange k size a b)) ∷ []
+
 abbrev pub subtotalRefused : ℕ → List ℕ → List ℕ → ℕ → ℕ → ℕ → ℕ → ℕ → ℕ
-subtotalRefused k z p source predicate size a b =
-    refused
-    (lengthTest k
-    ∷ fileTest k (length z) (length p)
-    ∷ rangeTest (not (both (inRange source predicate size) (laneRange k size a b)))
-    ∷ [])
+subtotalRefused k z p source predicate size a b = refused (subtotalTests k z p source predicate size a b)
 
 -- the subtotal of the active lanes from a up to but without b, or its refusal with 0
 abbrev pub subtotalAnswer : ℕ → List ℕ → List ℕ → ℕ → ℕ → ℕ → Bool → ℕ → ℕ → Answer

@@ -6,10 +6,13 @@ use mathlib.Core.Bool.{false, cond}
 use mathlib.Core.List.{List, [], _∷_}
 use lib.Dec.{ltb}
 use lib.ListN.{length, replicate}
+use lib.IntN.{ℤ}
 use Rattle.machine.specs.Size.{segmentBytes, mostLength, vectorBytes}
-use Rattle.lanes.specs.Lane.{lane, active, fromLanes, bitsOf}
+use Rattle.sums.specs.Sums.{Governs}
+use Rattle.lanes.specs.Lane.{lane, active, fromLanes}
+use Rattle.parts.specs.Number.{bitsOf}
 use Rattle.lanes.specs.Integer.{residue}
-use Rattle.lanes.specs.Sum.{Lane, exactSum}
+use Rattle.lanes.specs.Sum.{each, activeElement, total}
 
 -- the lanes of a segment
 abbrev pub perSegment : ℕ → ℕ
@@ -20,8 +23,32 @@ abbrev pub FillsSegment : ℕ → Type 0
 FillsSegment w = perSegment w * w ≡ segmentBytes
 
 -- whole segments, at most as many as the longest register has
-abbrev pub WholeSegments : List ℕ → Type 0
-WholeSegments register = (length register % segmentBytes ≡ 0) × (length register ≤ vectorBytes mostLength)
+pub record WholeSegments (register : List ℕ) : Type 0 where
+  pub whole : length register % segmentBytes ≡ 0
+  pub few : length register ≤ vectorBytes mostLength
+
+-- a register of whole segments that lanes of w bytes fill, with a predicate that governs it
+pub record GovernedSegments (w : ℕ) (predicate register : List ℕ) : Type 0 where
+  pub governs : Governs w predicate register
+  pub fills : FillsSegment w
+  pub segments : WholeSegments register
+
+-- segment s of such a register
+pub record GovernedSegment (w s : ℕ) (predicate register : List ℕ) : Type 0 where
+  pub governs : Governs w predicate register
+  pub fills : FillsSegment w
+  pub inside : s * segmentBytes + segmentBytes ≤ length register
+
+-- lanes of 1 to 8 bytes that fill a row
+pub record RowLanes (w : ℕ) : Type 0 where
+  pub least : 1 ≤ w
+  pub most : w ≤ 8
+  pub fills : FillsSegment w
+
+-- lane e of a row
+pub record RowLane (w e : ℕ) : Type 0 where
+  pub narrow : w ≤ 8
+  pub inside : e * w + w ≤ segmentBytes
 
 -- lane e of segment s: its number if it is active, else zero
 abbrev pub panelLane : ℕ → List ℕ → List ℕ → ℕ → ℕ → ℕ
@@ -47,15 +74,14 @@ panelOf w predicate register = panelFrom w predicate register 0 mostLength
 unfoldable pub noPanel : List (List ℕ)
 noPanel = replicate mostLength (replicate segmentBytes 0)
 
--- the lanes at place e of n segments from segment s on, each with its governing bit
-abbrev pub column : ℕ → ℕ → ℕ → ℕ → List ℕ → List ℕ → List Lane
-column w e s zero predicate register = []
-column w e s (suc n) predicate register =
-    (active w (s * perSegment w + e) predicate, lane w (s * perSegment w + e) register) ∷ column w e (suc s) n predicate register
+-- what segment s adds at place e
+abbrev pub columnElement : ℕ → List ℕ → List ℕ → ℕ → ℕ → ℤ
+columnElement w predicate register e s = activeElement false w predicate register (s * perSegment w + e)
 
 -- the sum at place e of a register's segments, modulo 2^width
 abbrev pub columnSum : ℕ → List ℕ → List ℕ → ℕ → ℕ
-columnSum w predicate register e = residue (bitsOf w) (exactSum false (bitsOf w) (column w e 0 (length register / segmentBytes) predicate register))
+columnSum w predicate register e =
+    residue (bitsOf w) (total (each (columnElement w predicate register e) 0 (length register / segmentBytes)))
 
 -- the numbers at place e of some rows, added
 abbrev pub placeSum : ℕ → ℕ → List (List ℕ) → ℕ

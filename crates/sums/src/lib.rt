@@ -1,25 +1,21 @@
 // Sums of a register's lanes: the active lanes in order, a range split at its middle, and the panel of segments with its column sums.
 ghost use mathlib.Core.Path.{_≡_};
-ghost use Prim.Native.Nat.{_+_, _*_, _%_, _^_, _≤_, _<_};
-ghost use lib.ListN.{length, take, drop};
-ghost use Rattle.machine.specs.Size.{segmentBytes, mostLength, vectors, predicates, vectorFile, predicateFile, vectorOf, predicateOf};
-ghost use Rattle.lanes.specs.Lane.{lane as laneAt, active, fromLanes, bitsOf};
+ghost use Prim.Native.Nat.{_%_, _^_};
+ghost use Rattle.lanes.specs.Lane.{lane as laneAt, fromLanes};
 ghost use Rattle.lanes.specs.Integer.{residue};
-ghost use Rattle.lanes.specs.Sum.{counted};
-ghost use Rattle.sums.specs.Sums.{Governs, laneSum};
-ghost use Rattle.sums.specs.Panel.{perSegment, FillsSegment, WholeSegments, panelRow, panelOf, placeSum, rowsSum};
+ghost use Rattle.lanes.specs.Sum.{activeElement};
+ghost use Rattle.sums.specs.Sums.{laneSum, GovernedLane, GovernedRange};
+ghost use Rattle.sums.specs.Panel.{perSegment, panelRow, panelOf, placeSum, rowsSum, GovernedSegments, GovernedSegment, RowLanes, RowLane};
 ghost use Rattle.sums.specs.Calls.{panelRefused, panelAnswer, subtotalRefused, subtotalAnswer};
 use machine::Answer;
 use machine::Length;
 use machine::refusal;
-
-// The sizes of a lane: 0 to 3.
-const SIZES: usize = 4;
+use registers::Kind;
 
 // What lane e adds: its number extended to 64 bits if it is active, else 0.
 pub fn lane_value(register: &[u8], predicate: &[u8], w: usize, signed: bool, e: usize) -> u64
-    requires { ⌜ Governs w (now predicate) (now register) × (e * w + w ≤ length (now register)) ⌝ }
-    ensures { λ r. ⌜ r ≡ residue 64 (counted signed (bitsOf w) (active w e (now (predicate .entry)), laneAt w e (now (register .entry)))) ⌝ }
+    requires { ⌜ GovernedLane w e (now predicate) (now register) ⌝ }
+    ensures { λ r. ⌜ r ≡ residue 64 (activeElement signed w (now (predicate .entry)) (now (register .entry)) e) ⌝ }
 {
     if !lanes::is_active(predicate, w, e) {
         return 0;
@@ -27,12 +23,9 @@ pub fn lane_value(register: &[u8], predicate: &[u8], w: usize, signed: bool, e: 
     lanes::extend(lanes::lane(register, w, e), w, signed)
 }
 
-// The most lanes of a range that is not split any more.
-const RUN: usize = 16;
-
 // The sum of the active lanes from a up to but without b, lane by lane, modulo 2^64.
 fn sum_run(register: &[u8], predicate: &[u8], w: usize, signed: bool, a: usize, b: usize) -> u64
-    requires { ⌜ Governs w (now predicate) (now register) × (a ≤ b) × (b * w ≤ length (now register)) ⌝ }
+    requires { ⌜ GovernedRange w a b (now predicate) (now register) ⌝ }
     ensures { λ r. ⌜ r ≡ laneSum signed w a b (now (predicate .entry)) (now (register .entry)) ⌝ }
 {
     let mut sum: u64 = 0;
@@ -46,14 +39,14 @@ fn sum_run(register: &[u8], predicate: &[u8], w: usize, signed: bool, a: usize, 
 
 // The sum of the active lanes below count, lane by lane, modulo 2^64.
 pub fn sum_lanes(register: &[u8], predicate: &[u8], w: usize, signed: bool, count: usize) -> u64
-    requires { ⌜ Governs w (now predicate) (now register) × (count * w ≤ length (now register)) ⌝ }
+    requires { ⌜ GovernedRange w 0 count (now predicate) (now register) ⌝ }
     ensures { λ r. ⌜ r ≡ laneSum signed w 0 count (now (predicate .entry)) (now (register .entry)) ⌝ }
 {
     sum_run(register, predicate, w, signed, 0, count)
 }
 
 // The sum of the active lanes from a up to but without b, modulo 2^64: the range is split at its middle and each half summed the same
-// way, until a few lanes are left.
+// way, down to single lanes.
 pub fn sum_between(
     register: &[u8],
     predicate: &[u8],
@@ -62,10 +55,10 @@ pub fn sum_between(
     a: usize,
     b: usize,
 ) -> u64
-    requires { ⌜ Governs w (now predicate) (now register) × (a ≤ b) × (b * w ≤ length (now register)) ⌝ }
+    requires { ⌜ GovernedRange w a b (now predicate) (now register) ⌝ }
     ensures { λ r. ⌜ r ≡ laneSum signed w a b (now (predicate .entry)) (now (register .entry)) ⌝ }
 {
-    if b - a <= RUN {
+    if b - a <= 1 {
         return sum_run(register, predicate, w, signed, a, b);
     }
     let middle = a + (b - a) / 2;
@@ -76,10 +69,10 @@ pub fn sum_between(
 
 // Segment s of a register with its inactive lanes zeroed.
 fn panel_row(register: &[u8], predicate: &[u8], w: usize, s: usize) -> [u8; 16]
-    requires { ⌜ Governs w (now predicate) (now register) × FillsSegment w × (s * segmentBytes + segmentBytes ≤ length (now register)) ⌝ }
+    requires { ⌜ GovernedSegment w s (now predicate) (now register) ⌝ }
     ensures { λ r. ⌜ r ≡ panelRow w (now (predicate .entry)) (now (register .entry)) s ⌝ }
 {
-    let count = Length::VECTOR_UNIT / w;
+    let count = Length::SEGMENT_BYTES / w;
     let first = s * count;
     let mut row = [0u8; 16];
     let mut e = 0;
@@ -93,10 +86,10 @@ fn panel_row(register: &[u8], predicate: &[u8], w: usize, s: usize) -> [u8; 16]
 
 // The panel of a register: row s is segment s, and rows past the register's end are zero.
 pub fn panel_of(register: &[u8], predicate: &[u8], w: usize) -> [[u8; 16]; 16]
-    requires { ⌜ Governs w (now predicate) (now register) × FillsSegment w × WholeSegments (now register) ⌝ }
+    requires { ⌜ GovernedSegments w (now predicate) (now register) ⌝ }
     ensures { λ r. ⌜ r ≡ panelOf w (now (predicate .entry)) (now (register .entry)) ⌝ }
 {
-    let count = register.len() / Length::VECTOR_UNIT;
+    let count = register.len() / Length::SEGMENT_BYTES;
     let mut rows = [[0u8; 16]; 16];
     let mut s = 0;
     while s < count {
@@ -108,7 +101,7 @@ pub fn panel_of(register: &[u8], predicate: &[u8], w: usize) -> [[u8; 16]; 16]
 
 // The number that lane e of a row holds.
 fn row_lane(row: [u8; 16], w: usize, e: usize) -> u64
-    requires { ⌜ (w ≤ 8) × (e * w + w ≤ segmentBytes) ⌝ }
+    requires { ⌜ RowLane w e ⌝ }
     ensures { λ r. ⌜ r ≡ laneAt w e row ⌝ }
 {
     lanes::lane(&row, w, e)
@@ -116,7 +109,7 @@ fn row_lane(row: [u8; 16], w: usize, e: usize) -> u64
 
 // The lanes at place e of a panel's rows, added modulo 2^64.
 fn column_sum(rows: [[u8; 16]; 16], w: usize, e: usize) -> u64
-    requires { ⌜ (w ≤ 8) × (e * w + w ≤ segmentBytes) ⌝ }
+    requires { ⌜ RowLane w e ⌝ }
     ensures { λ r. ⌜ r ≡ placeSum w e rows % 2 ^ 64 ⌝ }
 {
     let mut sum: u64 = 0;
@@ -130,10 +123,10 @@ fn column_sum(rows: [[u8; 16]; 16], w: usize, e: usize) -> u64
 
 // A panel's rows, added lane by lane modulo 2^width.
 pub fn column_sums(rows: [[u8; 16]; 16], w: usize) -> [u8; 16]
-    requires { ⌜ (1 ≤ w) × (w ≤ 8) × FillsSegment w ⌝ }
+    requires { ⌜ RowLanes w ⌝ }
     ensures { λ r. ⌜ r ≡ fromLanes w 0 (perSegment w) (rowsSum w rows) ⌝ }
 {
-    let count = Length::VECTOR_UNIT / w;
+    let count = Length::SEGMENT_BYTES / w;
     let mut row = [0u8; 16];
     let mut e = 0;
     while e < count {
@@ -142,34 +135,6 @@ pub fn column_sums(rows: [[u8; 16]; 16], w: usize) -> [u8; 16]
         e += 1;
     }
     row
-}
-
-// The bytes of register r, lent on from a file whose registers have so many bytes.
-fn part(file: &[u8], bytes: usize, r: usize) -> &[u8]
-    requires { ⌜ r * bytes + bytes ≤ length (now file) ⌝ }
-    ensures { λ part. ⌜ now part ≡ take bytes (drop (r * bytes) (now (file .entry))) ⌝ }
-{
-    let at = r * bytes;
-    let end = at + bytes;
-    &file[at..end]
-}
-
-// The bytes of vector register r.
-pub fn vector_part(k: usize, z: &[u8], r: usize) -> &[u8]
-    requires { ⌜ (k ≤ mostLength) × (r < vectors) × (length (now z) ≡ vectorFile k) ⌝ }
-    ensures { λ part. ⌜ now part ≡ vectorOf k r (now (z .entry)) ⌝ }
-{
-    let length = Length { k };
-    part(z, length.vector_bytes(), r)
-}
-
-// The bytes of predicate register r.
-pub fn predicate_part(k: usize, p: &[u8], r: usize) -> &[u8]
-    requires { ⌜ (k ≤ mostLength) × (r < predicates) × (length (now p) ≡ predicateFile k) ⌝ }
-    ensures { λ part. ⌜ now part ≡ predicateOf k r (now (p .entry)) ⌝ }
-{
-    let length = Length { k };
-    part(p, length.predicate_bytes(), r)
 }
 
 // The number that a panel is answered with: LENGTH, FILE, RANGE or DONE.
@@ -193,7 +158,7 @@ pub fn panel_refusal(
     if Length::GOVERNING <= governing {
         return refusal::RANGE;
     }
-    if SIZES <= size {
+    if Length::SIZES <= size {
         return refusal::RANGE;
     }
     refusal::DONE
@@ -213,8 +178,8 @@ pub fn panel(
     if panel_refusal(k, z, p, source, governing, size) != refusal::DONE {
         return [[0u8; 16]; 16];
     }
-    let register = vector_part(k, z, source);
-    let predicate = predicate_part(k, p, governing);
+    let register = registers::register(k, Kind::Vector, z, source);
+    let predicate = registers::register(k, Kind::Predicate, p, governing);
     panel_of(register, predicate, lanes::width_of(size))
 }
 
@@ -263,8 +228,8 @@ pub fn subtotal(
     if number != refusal::DONE {
         return Answer { number, value: 0 };
     }
-    let register = vector_part(k, z, source);
-    let predicate = predicate_part(k, p, governing);
+    let register = registers::register(k, Kind::Vector, z, source);
+    let predicate = registers::register(k, Kind::Predicate, p, governing);
     let value = sum_between(register, predicate, lanes::width_of(size), signed, a, b);
     Answer { number, value }
 }

@@ -6,8 +6,8 @@ fn main() {
     // One byte more than the longest session, so that a longer input is seen and refused.
     let mut input = [0u8; session::MOST_SESSION + 1];
     let count = io::read_full(STDIN_FILENO, &mut input);
-    let mut output = [0u8; session::output::MOST_OUTPUT];
-    let written = session::output::write_output(&mut output, &input[..count]);
+    let mut output = [0u8; walks::MOST_OUTPUT];
+    let written = walks::write_output(&mut output, &input[..count]);
     let length = written.value as usize;
     io::write_all(STDOUT_FILENO, &output[..length]);
 }

@@ -1,7 +1,7 @@
 -- The number that a word is answered with: UNKNOWN exactly where no row matches, UNDEFINED exactly where a row matches and its size is not
 -- allowed, DONE exactly where it is. Each public call's contract allows one result.
 -- Assumes nothing.
-use mathlib.Core.Path.{_≡_, refl, sym, _∙_, ap}
+use mathlib.Core.Path.{_≡_, refl, _∙_, ap}
 use mathlib.Core.Bool.{Bool, true, false, cond}
 use mathlib.Core.Logic.{_↔_}
 use Prim.Native.Nat.{ℕ, _≤_, _<_}
@@ -9,8 +9,12 @@ use native.Mathlib.Omega.{arith}
 use lib.Dec.{ltb}
 use borrow.Author.Tests.{ltb-true, ltb-false}
 use Rattle.machine.specs.Refusal.{DONE, UNKNOWN, UNDEFINED}
-use Rattle.words.specs.Table.{rows, rowAt, rowOf, formOf, matches, allows}
-use Rattle.words.specs.Decode.{decoded, judged, fieldsAt, numberOf}
+use Rattle.machine.proofs.Tests.{one-result}
+use Rattle.words.specs.Table.{rows, rowAt, rowOf, familyOf, formOf, matches, allows}
+use Rattle.words.specs.Field.{Counted}
+use Rattle.words.specs.Decode.{decoded, judged, fieldsAt, numberOf, RowWith}
+use Rattle.words.specs.declared.Row.{Row}
+use Rattle.words.specs.declared.Family.{Family}
 use Rattle.words.specs.declared.Form.{Form}
 use Rattle.words.specs.declared.Fields.{Fields}
 use Rattle.words.specs.declared.Decoded.{Decoded}
@@ -18,26 +22,26 @@ use Rattle.words.proofs.Rows.{row-matches, row-no-later}
 use Rattle.words.proofs.OneRow.{row-found}
 use Rattle.words.proofs.Decoding.{decoded-unknown, decoded-judged}
 
--- two results of a contract that says what the result is are the same; so for each public call
-one-result : {A : Type 0} (x r s : A) → r ≡ x → s ≡ x → r ≡ s
-one-result x r s p q = p ∙ sym q
-
+-- two results that the contract of a public call allows are the same
 pub decode-determined : (word : ℕ) (r s : Decoded) → r ≡ decoded word → s ≡ decoded word → r ≡ s
 decode-determined word = one-result (decoded word)
 
 pub number-of-determined : (d : Decoded) (r s : ℕ) → r ≡ numberOf d → s ≡ numberOf d → r ≡ s
 number-of-determined d = one-result (numberOf d)
 
+pub row-at-determined : (i : ℕ) (r s : Row) → r ≡ rowAt i → s ≡ rowAt i → r ≡ s
+row-at-determined i = one-result (rowAt i)
+
+pub family-of-determined : (i : ℕ) (r s : Family) → r ≡ familyOf i → s ≡ familyOf i → r ≡ s
+family-of-determined i = one-result (familyOf i)
+
 pub form-of-determined : (i : ℕ) (r s : Form) → r ≡ formOf i → s ≡ formOf i → r ≡ s
 form-of-determined i = one-result (formOf i)
 
--- a row matches a word and its size is allowed, or not, as t says
-pub record RowWith (word : ℕ) (t : Bool) : Type 0 where
-  pub row : ℕ
-  pub known : row < rows
-  pub hit : matches (rowAt row) word ≡ true
-  pub sized : allows (formOf row) (fieldsAt row word .q) (fieldsAt row word .size) ≡ t
+pub digits-determined : (n r s : ℕ) → Counted n r → Counted n s → r ≡ s
+digits-determined n r s a b = one-result n r s (a .is) (b .is)
 
+-- the number of fields, by whether their size is allowed
 judged-number : (f : Fields) (t : Bool) → allows (formOf (f .row)) (f .q) (f .size) ≡ t → numberOf (judged f) ≡ cond t DONE UNDEFINED
 judged-number f true e = rw e
 judged-number f false e = rw e

@@ -2,15 +2,21 @@
 -- Assumes nothing.
 use mathlib.Core.Path.{_≡_, refl, sym}
 use mathlib.Core.Bool.{Bool, true, false}
-use Prim.Native.Nat.{ℕ, _≤_, _<_}
+use Prim.Native.Nat.{ℕ, _^_, _≤_, _<_}
+use native.Mathlib.Nat.{lt-of-lt-of-le}
 use native.Mathlib.Omega.{arith}
 use lib.Dec.{ltb}
+use lib.Pow.{pow-mono}
 use borrow.Author.Tests.{lt-ltb, le-ltb, ltb-true}
 use Rattle.words.specs.Table.{rows, rowOf, formOf, allows}
-use Rattle.words.specs.Decode.{decoded, judged, fieldsAt, hasQ}
-use Rattle.words.proofs.Digits.{field-if-below}
+use Rattle.words.specs.Decode.{decoded, judged, fieldsAt}
+use Rattle.words.specs.Field.{registerDigits, predicateDigits, governingDigits, secondDigits, qDigits}
 use Rattle.words.specs.declared.Decoded.the-variants.{Unknown, Undefined, Word}
 use Rattle.words.specs.declared.Fields.{Fields}
+use Rattle.words.specs.declared.Family.{Family}
+use Rattle.words.specs.declared.Family.the-variants.{Low, Wide}
+use Rattle.words.specs.declared.LowFamily.the-variants.{Reduction, Segment, Long}
+use Rattle.words.specs.declared.WideFamily.the-variants.{Pairwise, Widening}
 
 -- where no row matches, and where one does
 pub decoded-unknown : (word : ℕ) → rows ≤ rowOf word → decoded word ≡ Unknown
@@ -21,9 +27,24 @@ pub decoded-judged : (word : ℕ) → rowOf word < rows → decoded word ≡ jud
 unfolding decoded
 decoded-judged word h = rw (lt-ltb _ _ h)
 
--- Q is one digit
-pub q-below : (i word : ℕ) → fieldsAt i word .q < 2
-q-below i word = field-if-below (hasQ (formOf i)) 30 1 word
+-- the digits of the fields that not every family has, at most: of the governing predicate, of the second source, and of Q
+pub digits-most : (family : Family)
+    → (governingDigits family ≤ predicateDigits) × (secondDigits family ≤ registerDigits) × (qDigits family ≤ 1)
+digits-most (Low Reduction) = (omega arith, omega arith, omega arith)
+digits-most (Low Segment) = (omega arith, omega arith, omega arith)
+digits-most (Low Long) = (omega arith, omega arith, omega arith)
+digits-most (Wide Pairwise) = (omega arith, omega arith, omega arith)
+digits-most (Wide Widening) = (omega arith, omega arith, omega arith)
+
+-- so much is any of them below
+pub governing-below : (family : Family) {x : ℕ} → x < 2 ^ governingDigits family → x < 2 ^ predicateDigits
+governing-below family h = lt-of-lt-of-le h (pow-mono (digits-most family .0))
+
+pub second-below : (family : Family) {x : ℕ} → x < 2 ^ secondDigits family → x < 2 ^ registerDigits
+second-below family h = lt-of-lt-of-le h (pow-mono (digits-most family .1))
+
+pub q-below : (family : Family) {x : ℕ} → x < 2 ^ qDigits family → x < 2
+q-below family h = lt-of-lt-of-le h (pow-mono (digits-most family .2))
 
 -- what is known of an accepted word
 pub record Accepted (word : ℕ) (f : Fields) : Type 0 where

@@ -1,7 +1,6 @@
 -- Laws of `digitsAnd`: it is the machine's AND, the order of masks does not matter, and over masks with no digit in common it adds.
 -- Assumes nothing.
 use mathlib.Core.Path.{_≡_, refl, sym, _∙_, ap, ap₂}
-use mathlib.Core.Bool.{Bool, true, false, cond}
 use Prim.Native.Nat.{ℕ, zero, suc, _+_, _*_, _-_, _/_, _%_, _^_, min, _<_}
 use native.Mathlib.Nat.{pow-suc, div-lt-iff-lt-mul, mod-lt, mod-eq-of-lt, min-comm}
 use native.Mathlib.Omega.{arith}
@@ -84,10 +83,6 @@ and-apart n a b m within apart =
     ∙ and-comm n 0 b
     ∙ and-none n b
 
--- a field of `count` digits is below 2^count, and so is one that may be absent
+-- a field of `count` digits is below 2^count
 pub field-below : (low count word : ℕ) → field low count word < 2 ^ count
 field-below low count word = mod-lt (word / 2 ^ low) (pow-pos count)
-
-pub field-if-below : (present : Bool) (low count word : ℕ) → cond present (field low count word) 0 < 2 ^ count
-field-if-below true low count word = field-below low count word
-field-if-below false low count word = pow-pos count

@@ -6,8 +6,8 @@ use Prim.Native.Nat.{ℕ, zero, suc, _<_}
 use native.Mathlib.Nat.{eq-or-lt-of-le, le-of-suc-le-suc}
 use mathlib.Core.Logic.{⊎-elim}
 use native.Mathlib.Omega.{arith}
-use Rattle.machine.specs.Size.{both}
-use Rattle.machine.proofs.Checks.{both-left, both-right}
+use Rattle.parts.specs.Part.{both}
+use Rattle.parts.proofs.Same.{both-left, both-right}
 
 -- the test holds at each place below n
 abbrev pub every : ℕ → (ℕ → Bool) → Bool

@@ -5,17 +5,22 @@ use mathlib.Core.Bool.{Bool, true, false, not, cond}
 use Prim.Native.Nat.{ℕ, _<_}
 use native.Mathlib.Nat.{lt-of-le-of-lt}
 use lib.Dec.{eqb}
+use lib.ListN.{length}
 use borrow.Author.Tests.{eq-eqb, eqb-true}
 use Rattle.words.specs.Digits.{digitsAnd, wordDigits}
-use Rattle.words.specs.Table.{rows, rowAt, rowOf, matches}
+use Rattle.words.specs.Table.{table, rows, rowAt, rowOf, matches}
 use Rattle.words.specs.declared.Row.{Row}
 use Rattle.words.proofs.Digits.{and-swap}
 use Rattle.words.proofs.Every.{every, at-each}
 use Rattle.words.proofs.Rows.{row-matches, row-no-later}
 
+-- the table has as many rows as are named
+pub rows-counted : length table ≡ rows
+rows-counted = refl
+
 -- two rows whose values differ within the digits that both masks have
 unfoldable pub apart : Row → Row → Bool
-apart r s = not (eqb (digitsAnd wordDigits (r .value) (s .mask)) (digitsAnd wordDigits (s .value) (r .mask)))
+apart r s = not (eqb (digitsAnd wordDigits (r .2) (s .1)) (digitsAnd wordDigits (s .2) (r .1)))
 
 -- the rows at two places are one row or stand apart
 unfoldable pub oneOrApart : ℕ → ℕ → Bool
@@ -23,7 +28,7 @@ oneOrApart i j = cond (eqb i j) true (apart (rowAt i) (rowAt j))
 
 -- it is so at all pairs of places of the table
 pub all-apart : every rows (λ i. every rows (oneOrApart i)) ≡ true
-unfolding oneOrApart apart digitsAnd
+unfolding oneOrApart apart digitsAnd rowAt
 all-apart = refl
 
 pair-apart : (i j : ℕ) → i < rows → j < rows → oneOrApart i j ≡ true
@@ -35,9 +40,9 @@ unfolding matches apart
 not-apart r s word e f =
     ap not
     (eq-eqb _ _
-    (ap (λ (v : ℕ). digitsAnd wordDigits v (s .mask)) (sym (eqb-true _ _ e))
-    ∙ and-swap wordDigits word (r .mask) (s .mask)
-    ∙ ap (λ (v : ℕ). digitsAnd wordDigits v (r .mask)) (eqb-true _ _ f)))
+    (ap (λ (v : ℕ). digitsAnd wordDigits v (s .1)) (sym (eqb-true _ _ e))
+    ∙ and-swap wordDigits word (r .1) (s .1)
+    ∙ ap (λ (v : ℕ). digitsAnd wordDigits v (r .1)) (eqb-true _ _ f)))
 
 -- no word matches two rows
 pub at-most-one-row : (i j word : ℕ) → i < rows → j < rows → matches (rowAt i) word ≡ true → matches (rowAt j) word ≡ true → i ≡ j

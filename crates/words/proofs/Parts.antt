@@ -1,18 +1,19 @@
--- Numbers that lie within masks with no digit in common: their sum's digits under each mask are that mask's number. A mask may be that
--- of a field, which takes `count` digits from digit `low` up.
+-- Numbers that lie within masks with no digit in common: their sum's digits under each mask are that mask's number. Masks may be those
+-- of fields: numbers of their fields' digits are told by their sum.
 -- Assumes nothing.
 use mathlib.Core.Path.{_≡_, refl, sym, _∙_, ap, ap₂}
-use mathlib.Core.Bool.{Bool, true, false, cond}
-use mathlib.Core.List.{List, [], _∷_}
+use mathlib.Core.Bool.{Bool, true}
+use mathlib.Core.List.{List, [], _∷_, map}
 use Prim.Native.Nat.{ℕ, _+_, _*_, _-_, _%_, _^_, _≤_, _<_}
-use native.Mathlib.Nat.{zero-mul, lt-of-lt-of-le, mod-eq-of-lt}
+use native.Mathlib.Nat.{lt-of-lt-of-le, mod-eq-of-lt, eq-of-mul-eq-mul-right}
 use native.Mathlib.Omega.{arith}
 use lib.Bits.{bitAnd, and-high}
 use lib.Dec.{eqb}
-use lib.Pow.{high-ones, pow-mono, shl-lt, shl-shr}
+use lib.ListN.{getD, drop}
+use lib.Pow.{high-ones, pow-mono, pow-pos, shl-lt, shl-shr}
 use borrow.Author.Tests.{eqb-true}
-use Rattle.machine.specs.Size.{both}
-use Rattle.machine.proofs.Checks.{both-left, both-right}
+use Rattle.parts.specs.Part.{both}
+use Rattle.parts.proofs.Same.{both-left, both-right}
 use Rattle.words.specs.Digits.{digitsAnd, field}
 use Rattle.words.proofs.Digits.{and-digits, and-comm, and-add, and-apart, and-none}
 
@@ -103,22 +104,60 @@ total-under n (p ∷ ps) (m ∷ ms) e w =
     (and-add-left n m p (total ps) apart ∙ omega (arith, w .0, other))
     (under-more n p (total ps) ms rest apart none ∙ total-under n ps ms rest (w .1))
 
--- the mask of a field that a row may have
-abbrev pub fieldMask : Bool → ℕ → ℕ → ℕ
-fieldMask present low count = cond present ((2 ^ count - 1) * 2 ^ low) 0
+-- a field by its lowest digit and the number of its digits, and its mask
+abbrev pub Place : Type 0
+Place = ℕ × ℕ
+
+abbrev pub fieldMask : Place → ℕ
+fieldMask p = (2 ^ (p .1) - 1) * 2 ^ (p .0)
 
 -- what a word has under it is the field, at its place
-pub under-field : (n : ℕ) (present : Bool) (low count w : ℕ) → w < 2 ^ n
-    → digitsAnd n w (fieldMask present low count) ≡ cond present (field low count w) 0 * 2 ^ low
-under-field n true low count w h =
-    sym (and-digits n w _ h) ∙ ap (λ (m : ℕ). bitAnd w m) (sym (high-ones count low)) ∙ and-high w count low
-under-field n false low count w h = and-none n w ∙ sym (zero-mul (2 ^ low))
+under-field : (n : ℕ) (p : Place) (w : ℕ) → w < 2 ^ n → digitsAnd n w (fieldMask p) ≡ field (p .0) (p .1) w * 2 ^ (p .0)
+under-field n p w h =
+    sym (and-digits n w _ h) ∙ ap (λ (m : ℕ). bitAnd w m) (sym (high-ones (p .1) (p .0))) ∙ and-high w (p .1) (p .0)
 
--- a number of `count` digits lies within its place
-pub field-within : (n : ℕ) (present : Bool) (low count x : ℕ) → count + low ≤ n → x < 2 ^ count → (present ≡ false → x ≡ 0)
-    → digitsAnd n (x * 2 ^ low) (fieldMask present low count) ≡ x * 2 ^ low
-field-within n true low count x fits h none =
-    under-field n true low count (x * 2 ^ low) (lt-of-lt-of-le (shl-lt count low h) (pow-mono fits))
-    ∙ ap (λ (y : ℕ). y % 2 ^ count * 2 ^ low) (shl-shr x low)
-    ∙ ap (λ (y : ℕ). y * 2 ^ low) (mod-eq-of-lt h)
-field-within n false low count x fits h none = and-none n (x * 2 ^ low) ∙ sym (ap (λ (y : ℕ). y * 2 ^ low) (none refl) ∙ zero-mul (2 ^ low))
+-- a number of a field's digits lies within its place
+field-within : (n : ℕ) (p : Place) (x : ℕ) → p .1 + p .0 ≤ n → x < 2 ^ (p .1) → digitsAnd n (x * 2 ^ (p .0)) (fieldMask p) ≡ x * 2 ^ (p .0)
+field-within n p x fits h =
+    under-field n p (x * 2 ^ (p .0)) (lt-of-lt-of-le (shl-lt (p .1) (p .0) h) (pow-mono fits))
+    ∙ ap (λ (y : ℕ). y % 2 ^ (p .1) * 2 ^ (p .0)) (shl-shr x (p .0))
+    ∙ ap (λ (y : ℕ). y * 2 ^ (p .0)) (mod-eq-of-lt h)
+
+-- a word's fields, and numbers at the places of fields
+abbrev pub fieldsIn : ℕ → List Place → List ℕ
+fieldsIn w [] = []
+fieldsIn w (p ∷ ps) = field (p .0) (p .1) w ∷ fieldsIn w ps
+
+abbrev pub placed : List Place → List ℕ → List ℕ
+placed (p ∷ ps) (x ∷ xs) = x * 2 ^ (p .0) ∷ placed ps xs
+placed [] xs = []
+placed (p ∷ ps) [] = []
+
+-- what a word has under the fields' masks is its fields, at their places
+pub under-fields : (n : ℕ) (ps : List Place) (w : ℕ) → w < 2 ^ n → under n w (map fieldMask ps) ≡ placed ps (fieldsIn w ps)
+under-fields n [] w h = refl
+under-fields n (p ∷ ps) w h = ap₂ (λ (x : ℕ) (xs : List ℕ). x ∷ xs) (under-field n p w h) (under-fields n ps w h)
+
+-- numbers of their fields' digits, one for each, in a word of n digits
+abbrev pub Fits : ℕ → List Place → List ℕ → Type 0
+Fits n [] [] = Unit
+Fits n [] (x ∷ xs) = ⊥
+Fits n (p ∷ ps) [] = ⊥
+Fits n (p ∷ ps) (x ∷ xs) = (p .1 + p .0 ≤ n) × (x < 2 ^ (p .1)) × Fits n ps xs
+
+-- lie within the fields' masks
+pub fields-within : (n : ℕ) (ps : List Place) (xs : List ℕ) → Fits n ps xs → Within n (placed ps xs) (map fieldMask ps)
+fields-within n [] [] w = tt
+fields-within n [] (x ∷ xs) w = absurd w
+fields-within n (p ∷ ps) [] w = absurd w
+fields-within n (p ∷ ps) (x ∷ xs) w = (field-within n p x (w .0) (w .1), fields-within n ps xs (w .2))
+
+-- and are told by where they stand
+pub placed-one : (n : ℕ) (ps : List Place) (w : ℕ) (xs : List ℕ) → Fits n ps xs → placed ps (fieldsIn w ps) ≡ placed ps xs → fieldsIn w ps ≡ xs
+placed-one n [] w [] fits e = refl
+placed-one n [] w (x ∷ xs) fits e = absurd fits
+placed-one n (p ∷ ps) w [] fits e = absurd fits
+placed-one n (p ∷ ps) w (x ∷ xs) fits e =
+    ap₂ (λ (y : ℕ) (ys : List ℕ). y ∷ ys)
+    (eq-of-mul-eq-mul-right (2 ^ (p .0)) (pow-pos (p .0)) _ x (ap (λ (l : List ℕ). getD l 0 0) e))
+    (placed-one n ps w xs (fits .2) (ap (drop 1) e))

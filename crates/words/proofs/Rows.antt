@@ -9,7 +9,7 @@ use native.Mathlib.Numerals.{add-one}
 use native.Mathlib.Omega.{arith}
 use lib.ListN.{length, getD, drop}
 use lib.Seq.{drop-cons}
-use Rattle.words.specs.Table.{table, row, rows, rowAt, rowOf, matches, placeFrom}
+use Rattle.words.specs.Table.{table, noRow, rows, rowAt, rowOf, matches, placeFrom}
 use Rattle.words.specs.declared.Row.{Row}
 
 -- a place within a list does not go by the value that stands for what is outside
@@ -21,8 +21,8 @@ at-any (x ∷ l) (suc i) a b h = at-any l i a b (omega arith)
 -- the place counted from i on, at a row that matches and at one that does not
 place-at : (i word : ℕ) → i < rows
     → placeFrom i (drop i table) word ≡ cond (matches (rowAt i) word) i (placeFrom (i + 1) (drop (i + 1) table) word)
-unfolding placeFrom
-place-at i word h = rw (drop-cons table i (row 0 0) h, add-one)
+unfolding placeFrom rowAt
+place-at i word h = rw (drop-cons table i noRow h, add-one)
 
 pub place-here : (i word : ℕ) → i < rows → matches (rowAt i) word ≡ true → placeFrom i (drop i table) word ≡ i
 place-here i word h e = place-at i word h ∙ rw e
@@ -33,19 +33,19 @@ place-next i word h e = place-at i word h ∙ rw e
 
 -- the search stops at a row that matches, or past the last
 pub found : (rs : List Row) (k word : ℕ)
-    → (j : ℕ) × (placeFrom k rs word ≡ k + j) × (j < length rs → matches (getD rs j (row 0 0)) word ≡ true)
+    → (j : ℕ) × (placeFrom k rs word ≡ k + j) × (j < length rs → matches (getD rs j noRow) word ≡ true)
 unfolding placeFrom
 found [] k word = (0, sym (add-zero k), λ h. absurd (omega arith))
 found (r ∷ rs) k word = go (matches r word) refl (found rs (suc k) word)
   where
     go : (t : Bool) → matches r word ≡ t
-        → (j : ℕ) × (placeFrom (suc k) rs word ≡ suc k + j) × (j < length rs → matches (getD rs j (row 0 0)) word ≡ true)
-        → (j : ℕ) × (placeFrom k (r ∷ rs) word ≡ k + j) × (j < length (r ∷ rs) → matches (getD (r ∷ rs) j (row 0 0)) word ≡ true)
+        → (j : ℕ) × (placeFrom (suc k) rs word ≡ suc k + j) × (j < length rs → matches (getD rs j noRow) word ≡ true)
+        → (j : ℕ) × (placeFrom k (r ∷ rs) word ≡ k + j) × (j < length (r ∷ rs) → matches (getD (r ∷ rs) j noRow) word ≡ true)
     go true e rest = (0, rw e (sym (add-zero k)), λ h. e)
     go false e rest = (suc (rest .0), rw e (rest .1 ∙ omega arith), λ h. rest .2 (omega arith))
 
 -- and no later than at any row that matches
-pub no-later : (rs : List Row) (k word i : ℕ) → i < length rs → matches (getD rs i (row 0 0)) word ≡ true → placeFrom k rs word ≤ k + i
+pub no-later : (rs : List Row) (k word i : ℕ) → i < length rs → matches (getD rs i noRow) word ≡ true → placeFrom k rs word ≤ k + i
 unfolding placeFrom
 no-later [] k word i h e = absurd (omega arith)
 no-later (r ∷ rs) k word zero h e = rw e (omega arith)
@@ -57,7 +57,7 @@ no-later (r ∷ rs) k word (suc i) h e = go (matches r word) (no-later rs (suc k
 
 -- a row that is found matches
 pub row-matches : (word : ℕ) → rowOf word < rows → matches (rowAt (rowOf word)) word ≡ true
-unfolding rowOf
+unfolding rowOf rowAt
 row-matches word h =
     let (j, e, m) = found table 0 word in
     let p : placeFrom 0 table word ≡ j = e ∙ zero-add j in
@@ -65,5 +65,5 @@ row-matches word h =
 
 -- a row that matches is found no later
 pub row-no-later : (word i : ℕ) → i < rows → matches (rowAt i) word ≡ true → rowOf word ≤ i
-unfolding rowOf
+unfolding rowOf rowAt
 row-no-later word i h e = rw zero-add at (no-later table 0 word i h e)

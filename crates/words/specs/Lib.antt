@@ -1,4 +1,6 @@
 pub mod Digits
+pub mod Text
 pub mod Table
+pub mod Field
 pub mod Decode
 pub mod Encode

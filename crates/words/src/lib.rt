@@ -1,26 +1,47 @@
-// The eleven words: a table of masks and values, and what a word decodes to.
+// The eleven words: a table with a line for each, and what a word decodes to.
 use machine::refusal;
 ghost use mathlib.Core.Path.{_≡_};
-ghost use mathlib.Core.Bool.{cond};
-ghost use Prim.Native.Nat.{_<_};
+ghost use Prim.Native.Nat.{_<_, _^_};
 ghost use Rattle.words.specs.Digits.{field, wordDigits};
-ghost use Rattle.words.specs.Table.{rowOf, formOf, leastSize, mostSize, allows};
-ghost use Rattle.words.specs.Decode.{decoded, numberOf, fieldsAt, isGoverned, hasSecond, hasQ};
+ghost use Rattle.words.specs.Table.{rowAt, matches, rowOf, familyOf, formOf, within, mostReduced, allowsLong, allowsLow, allows};
+ghost use Rattle.words.specs.Field.{sizeDigits, governingDigits, secondDigits, qDigits, Counted};
+ghost use Rattle.words.specs.Decode.{decoded, numberOf, fieldsAt};
 
-// A word is of this row where word AND mask = value.
-pub struct Row {
-    pub mask: u32,
-    pub value: u32,
+pub mod place;
+
+// What a family writes: the low bytes of V with zeros above, or every lane of Z.
+pub enum Family {
+    Low(LowFamily),
+    Wide(WideFamily),
 }
 
-// How a row works: the family, whether its lanes are signed, and whether it takes the top half lanes.
-pub enum Form {
-    Reduction(bool),
+// The families that write the low bytes.
+pub enum LowFamily {
+    Reduction,
     Segment,
-    Long(bool),
-    Pairwise(bool),
-    Widening(bool, bool),
+    Long,
 }
+
+// The families that write every lane.
+pub enum WideFamily {
+    Pairwise,
+    Widening,
+}
+
+// What else a row says: whether its elements are signed, and whether it takes the top half elements.
+pub struct Parameters {
+    pub signed: bool,
+    pub top: bool,
+}
+
+// How a row works.
+pub struct Form {
+    pub family: Family,
+    pub parameters: Parameters,
+}
+
+// Name, with a space where it has five letters; mask and value, a word being of this row where word AND mask = value; family; parameters.
+pub struct Row(pub [u8; NAME], pub u32, pub u32, pub Family, pub Parameters);
 
 // A word's row and its fields; a field that the row does not have is 0.
 pub struct Fields {
@@ -40,76 +61,98 @@ pub enum Decoded {
     Word(Fields),
 }
 
+// The bytes of a name in the table.
+pub const NAME: usize = 6;
+
+// The digits of the size, of a register's number, and of a governing predicate's.
+pub const SIZE_DIGITS: u32 = 2;
+
+pub const REGISTER_DIGITS: u32 = 5;
+
+pub const PREDICATE_DIGITS: u32 = 3;
+
 // The number of rows.
 pub const ROWS: usize = 11;
 
-// saddv, uaddv, addqv, saddlv, uaddlv, sadalp, uadalp, saddlb, saddlt, uaddlb, uaddlt.
-pub const TABLE: [Row; ROWS] = [
-    Row {
-        mask: 0xFF3FE000,
-        value: 0x04002000,
-    },
-    Row {
-        mask: 0xFF3FE000,
-        value: 0x04012000,
-    },
-    Row {
-        mask: 0xFF3FE000,
-        value: 0x04052000,
-    },
-    Row {
-        mask: 0xBF3FFC00,
-        value: 0x0E303800,
-    },
-    Row {
-        mask: 0xBF3FFC00,
-        value: 0x2E303800,
-    },
-    Row {
-        mask: 0xFF3FE000,
-        value: 0x4404A000,
-    },
-    Row {
-        mask: 0xFF3FE000,
-        value: 0x4405A000,
-    },
-    Row {
-        mask: 0xFF20FC00,
-        value: 0x45000000,
-    },
-    Row {
-        mask: 0xFF20FC00,
-        value: 0x45000400,
-    },
-    Row {
-        mask: 0xFF20FC00,
-        value: 0x45000800,
-    },
-    Row {
-        mask: 0xFF20FC00,
-        value: 0x45000C00,
-    },
+const REDUCTION: Family = Family::Low(LowFamily::Reduction);
+
+const SEGMENT: Family = Family::Low(LowFamily::Segment);
+
+const LONG: Family = Family::Low(LowFamily::Long);
+
+const PAIRWISE: Family = Family::Wide(WideFamily::Pairwise);
+
+const WIDENING: Family = Family::Wide(WideFamily::Widening);
+
+const SIGNED: Parameters = Parameters {
+    signed: true,
+    top: false,
+};
+
+const UNSIGNED: Parameters = Parameters {
+    signed: false,
+    top: false,
+};
+
+const SIGNED_TOP: Parameters = Parameters {
+    signed: true,
+    top: true,
+};
+
+const UNSIGNED_TOP: Parameters = Parameters {
+    signed: false,
+    top: true,
+};
+
+// A line for each of the eleven.
+const TABLE: [Row; ROWS] = [
+    Row(*b"saddv ", 0xFF3FE000, 0x04002000, REDUCTION, SIGNED),
+    Row(*b"uaddv ", 0xFF3FE000, 0x04012000, REDUCTION, UNSIGNED),
+    Row(*b"addqv ", 0xFF3FE000, 0x04052000, SEGMENT, UNSIGNED),
+    Row(*b"saddlv", 0xBF3FFC00, 0x0E303800, LONG, SIGNED),
+    Row(*b"uaddlv", 0xBF3FFC00, 0x2E303800, LONG, UNSIGNED),
+    Row(*b"sadalp", 0xFF3FE000, 0x4404A000, PAIRWISE, SIGNED),
+    Row(*b"uadalp", 0xFF3FE000, 0x4405A000, PAIRWISE, UNSIGNED),
+    Row(*b"saddlb", 0xFF20FC00, 0x45000000, WIDENING, SIGNED),
+    Row(*b"saddlt", 0xFF20FC00, 0x45000400, WIDENING, SIGNED_TOP),
+    Row(*b"uaddlb", 0xFF20FC00, 0x45000800, WIDENING, UNSIGNED),
+    Row(*b"uaddlt", 0xFF20FC00, 0x45000C00, WIDENING, UNSIGNED_TOP),
 ];
 
-pub const FORMS: [Form; ROWS] = [
-    Form::Reduction(true),
-    Form::Reduction(false),
-    Form::Segment,
-    Form::Long(true),
-    Form::Long(false),
-    Form::Pairwise(true),
-    Form::Pairwise(false),
-    Form::Widening(true, false),
-    Form::Widening(true, true),
-    Form::Widening(false, false),
-    Form::Widening(false, true),
-];
+// What stands past the last row.
+const NO_ROW: Row = Row(*b"      ", 0, 0, SEGMENT, UNSIGNED);
+
+// The row at a place.
+pub fn row_at(i: usize) -> Row
+    ensures { λ r. ⌜ r ≡ rowAt i ⌝ }
+{
+    if i < ROWS { TABLE[i] } else { NO_ROW }
+}
+
+// The family of the row at a place.
+pub fn family_of(i: usize) -> Family
+    ensures { λ r. ⌜ r ≡ familyOf i ⌝ }
+{
+    let row = row_at(i);
+    row.3
+}
 
 // The form of the row at a place.
 pub fn form_of(i: usize) -> Form
     ensures { λ r. ⌜ r ≡ formOf i ⌝ }
 {
-    if i < ROWS { FORMS[i] } else { Form::Segment }
+    let row = row_at(i);
+    let family = row.3;
+    let parameters = row.4;
+    Form { family, parameters }
+}
+
+// Whether a word is of the row at a place.
+fn matches(i: usize, word: u32) -> bool
+    ensures { λ r. ⌜ r ≡ matches (rowAt i) word ⌝ }
+{
+    let row = row_at(i);
+    word & row.1 == row.2
 }
 
 // The place of the row that matches a word, or the number of rows where none does.
@@ -118,8 +161,7 @@ fn row_of(word: u32) -> usize
 {
     let mut i = 0;
     while i < ROWS {
-        let row = TABLE[i];
-        if word & row.mask == row.value {
+        if matches(i, word) {
             return i;
         }
         i += 1;
@@ -127,84 +169,103 @@ fn row_of(word: u32) -> usize
     i
 }
 
-// The least size that a form allows.
-fn least_size(form: Form) -> usize
-    ensures { λ r. ⌜ r ≡ leastSize form ⌝ }
+// Whether a size lies from the least to the most.
+fn is_within(least: usize, most: usize, size: usize) -> bool
+    ensures { λ r. ⌜ r ≡ within least most size ⌝ }
 {
-    match form {
-        Form::Reduction(_) => 0,
-        Form::Segment => 0,
-        Form::Long(_) => 0,
-        Form::Pairwise(_) => 1,
-        Form::Widening(_, _) => 1,
+    if size < least {
+        return false;
     }
+    size <= most
 }
 
-// The most that it allows, which of the long forms depends on Q.
-fn most_size(form: Form, q: usize) -> usize
-    requires { ⌜ q < 2 ⌝ }
-    ensures { λ r. ⌜ r ≡ mostSize form q ⌝ }
+// The long forms' sizes: size:Q = '100' is UNDEFINED, and so is size = '11'.
+fn allows_long(q: usize, size: usize) -> bool
+    requires { ⌜ (size < 2 ^ sizeDigits) × (q < 2) ⌝ }
+    ensures { λ r. ⌜ r ≡ allowsLong q size ⌝ }
 {
-    match form {
-        Form::Reduction(signed) => if signed { 2 } else { 3 },
-        Form::Segment => 3,
-        Form::Long(_) => 1 + q,
-        Form::Pairwise(_) => 3,
-        Form::Widening(_, _) => 3,
+    if size * 2 + q == 0b100 {
+        return false;
+    }
+    size != 0b11
+}
+
+// The most size of a reduction.
+fn most_reduced(signed: bool) -> usize
+    ensures { λ r. ⌜ r ≡ mostReduced signed ⌝ }
+{
+    if signed { 2 } else { 3 }
+}
+
+// Whether a family that writes the low bytes allows a size.
+fn allows_low(low: LowFamily, signed: bool, q: usize, size: usize) -> bool
+    requires { ⌜ (size < 2 ^ sizeDigits) × (q < 2) ⌝ }
+    ensures { λ r. ⌜ r ≡ allowsLow low signed q size ⌝ }
+{
+    match low {
+        LowFamily::Reduction => is_within(0, most_reduced(signed), size),
+        LowFamily::Segment => is_within(0, 3, size),
+        LowFamily::Long => allows_long(q, size),
     }
 }
 
 // Whether a form allows a size.
 fn allows_size(form: Form, q: usize, size: usize) -> bool
-    requires { ⌜ q < 2 ⌝ }
+    requires { ⌜ (size < 2 ^ sizeDigits) × (q < 2) ⌝ }
     ensures { λ r. ⌜ r ≡ allows form q size ⌝ }
 {
-    if size < least_size(form) {
-        return false;
+    let family = form.family;
+    match family {
+        Family::Low(low) => allows_low(low, form.parameters.signed, q, size),
+        Family::Wide(_) => is_within(1, 3, size),
     }
-    size <= most_size(form, q)
 }
 
-// Whether a form names a governing predicate.
-fn is_governed(form: Form) -> bool
-    ensures { λ r. ⌜ r ≡ isGoverned form ⌝ }
+// How many digits the governing predicate has in a family's words.
+pub fn governing_digits(family: Family) -> u32
+    ensures { λ r. ⌜ Counted (governingDigits family) r ⌝ }
 {
-    match form {
-        Form::Reduction(_) => true,
-        Form::Segment => true,
-        Form::Long(_) => false,
-        Form::Pairwise(_) => true,
-        Form::Widening(_, _) => false,
+    match family {
+        Family::Low(low) => match low {
+            LowFamily::Reduction => PREDICATE_DIGITS,
+            LowFamily::Segment => PREDICATE_DIGITS,
+            LowFamily::Long => 0,
+        },
+        Family::Wide(wide) => match wide {
+            WideFamily::Pairwise => PREDICATE_DIGITS,
+            WideFamily::Widening => 0,
+        },
     }
 }
 
-// Whether it names a second source.
-fn has_second(form: Form) -> bool
-    ensures { λ r. ⌜ r ≡ hasSecond form ⌝ }
+// How many the second source has.
+pub fn second_digits(family: Family) -> u32
+    ensures { λ r. ⌜ Counted (secondDigits family) r ⌝ }
 {
-    match form {
-        Form::Reduction(_) => false,
-        Form::Segment => false,
-        Form::Long(_) => false,
-        Form::Pairwise(_) => false,
-        Form::Widening(_, _) => true,
+    match family {
+        Family::Low(_) => 0,
+        Family::Wide(wide) => match wide {
+            WideFamily::Pairwise => 0,
+            WideFamily::Widening => REGISTER_DIGITS,
+        },
     }
 }
 
-// Whether it has Q.
-fn has_q(form: Form) -> bool
-    ensures { λ r. ⌜ r ≡ hasQ form ⌝ }
+// How many Q has.
+fn q_digits(family: Family) -> u32
+    ensures { λ r. ⌜ Counted (qDigits family) r ⌝ }
 {
-    match form {
-        Form::Reduction(_) => false,
-        Form::Segment => false,
-        Form::Long(_) => true,
-        Form::Pairwise(_) => false,
-        Form::Widening(_, _) => false,
+    match family {
+        Family::Low(low) => match low {
+            LowFamily::Reduction => 0,
+            LowFamily::Segment => 0,
+            LowFamily::Long => 1,
+        },
+        Family::Wide(_) => 0,
     }
 }
 
-// The number that `count` digits of a word make, from digit `low` up.
+// The number that `count` digits of a word make, from digit `low` up; 0 where there are none.
 fn field_of(word: u32, low: u32, count: u32) -> usize
     requires { ⌜ (low < wordDigits) × (count < wordDigits) ⌝ }
     ensures { λ r. ⌜ r ≡ field low count word ⌝ }
@@ -212,31 +273,19 @@ fn field_of(word: u32, low: u32, count: u32) -> usize
     ((word >> low) % (1 << count)) as usize
 }
 
-// The same where the row has the field, else 0.
-fn field_if(present: bool, word: u32, low: u32, count: u32) -> usize
-    requires { ⌜ (low < wordDigits) × (count < wordDigits) ⌝ }
-    ensures { λ r. ⌜ r ≡ cond present (field low count word) 0 ⌝ }
-{
-    if present {
-        field_of(word, low, count)
-    } else {
-        0
-    }
-}
-
 // The fields of a word of the row at a place.
 fn fields_at(i: usize, word: u32) -> Fields
     ensures { λ r. ⌜ r ≡ fieldsAt i word ⌝ }
 {
-    let form = form_of(i);
+    let family = family_of(i);
     Fields {
         row: i,
-        size: field_of(word, 22, 2),
-        n: field_of(word, 5, 5),
-        d: field_of(word, 0, 5),
-        g: field_if(is_governed(form), word, 10, 3),
-        m: field_if(has_second(form), word, 16, 5),
-        q: field_if(has_q(form), word, 30, 1),
+        size: field_of(word, place::SIZE, SIZE_DIGITS),
+        n: field_of(word, place::SOURCE, REGISTER_DIGITS),
+        d: field_of(word, place::DESTINATION, REGISTER_DIGITS),
+        g: field_of(word, place::GOVERNING, governing_digits(family)),
+        m: field_of(word, place::SECOND, second_digits(family)),
+        q: field_of(word, place::Q, q_digits(family)),
     }
 }
 

@@ -5,28 +5,13 @@ use mathlib.Core.Bool.{true, false}
 use Prim.Native.Nat.{ℕ, _≤_}
 use native.Mathlib.Omega.{arith}
 use lib.Seq.{length-take-le}
-use Rattle.names.proofs.Longest.{mostText}
+use Rattle.names.proofs.Pieces.{mostText}
 use Rattle.names.proofs.Naming.{named-most}
 use Rattle.assembles.specs.Reading.{fieldsFrom, wordOf}
 use Rattle.assembles.proofs.Assembling.{assembled-done, assembled-none, checked, unchecked, word-below}
 use borrow.Author.Needs.{needs}
 use Rattle.assembles.proofs.assemble.Statement.{statement}
 use Rattle.assembles.proofs.assemble.Tie as tie
-
-read-fields-requires : tie.Need-read-fields-requires
-read-fields-requires c κs = search needs
-
-encode-requires : tie.Need-encode-requires
-encode-requires c κs = search needs
-
-cast-value : tie.Need-cast-value
-cast-value c = search needs
-
-slice-aggregate-text : tie.Need-slice-aggregate-text
-slice-aggregate-text c = search needs
-
-text-requires : tie.Need-text-requires
-text-requires c κs = search needs
 
 -- a text is shorter than the line
 short : (c : tie.After-text) → c .text .result .value ≤ mostText
@@ -45,9 +30,6 @@ array-share-prefix-line c = omega (arith, short (c .before .before .before))
 
 slice-aggregate-same : tie.Need-slice-aggregate-same
 slice-aggregate-same c = sym (length-take-le _ _ (omega (arith, short (c .before .before .before .before))))
-
-same-requires : tie.Need-same-requires
-same-requires c κs = search needs
 
 returns : tie.Need-returns
 returns c =
@@ -83,14 +65,14 @@ pub assemble-spec : {M : Type 1} → statement M
 assemble-spec =
     tie.close
     (tie.spec
-    read-fields-requires
-    encode-requires
-    cast-value
-    slice-aggregate-text
-    text-requires
+    (λ c κs. search needs)
+    (λ c κs. search needs)
+    (λ c. search needs)
+    (λ c. search needs)
+    (λ c κs. search needs)
     array-share-prefix-line
     slice-aggregate-same
-    same-requires
+    (λ c κs. search needs)
     returns
     returns-2
     returns-3)

@@ -7,12 +7,6 @@ use borrow.Author.Needs.{needs}
 use Rattle.assembles.proofs.byte_from_end.Statement.{statement}
 use Rattle.assembles.proofs.byte_from_end.Tie as tie
 
-sub-byte-at : tie.Need-sub-byte-at
-sub-byte-at c = search needs
-
-byte-at-requires : tie.Need-byte-at-requires
-byte-at-requires c κs = search needs
-
 returns : tie.Need-returns
 unfolding fromEnd
 returns c = c .byte-at .ensures ∙ sym (rw (le-leb _ _ (c .before .if1 .taken)))
@@ -22,4 +16,4 @@ unfolding fromEnd
 returns-2 c = sym (rw (lt-leb _ _ (c .if1 .left)))
 
 pub byte-from-end-spec : {M : Type 1} → statement M
-byte-from-end-spec = tie.close (tie.spec sub-byte-at byte-at-requires returns returns-2)
+byte-from-end-spec = tie.close (tie.spec (λ c. search needs) (λ c κs. search needs) returns returns-2)

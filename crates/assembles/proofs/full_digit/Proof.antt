@@ -7,14 +7,8 @@ use borrow.Author.Needs.{needs}
 use Rattle.assembles.proofs.full_digit.Statement.{statement}
 use Rattle.assembles.proofs.full_digit.Tie as tie
 
-array-read-result : tie.Need-array-read-result
-array-read-result c = search needs
-
-returns : tie.Need-returns
-returns c = search needs
-
 returns-2 : tie.Need-returns-2
 returns-2 c = sym (List·getD-eq-default fullDigits 0 (c .if1 .left))
 
 pub full-digit-spec : {M : Type 1} → statement M
-full-digit-spec = tie.close (tie.spec array-read-result returns returns-2)
+full-digit-spec = tie.close (tie.spec (λ c. search needs) (λ c. search needs) returns-2)

@@ -7,33 +7,6 @@ use borrow.Author.Needs.{needs}
 use Rattle.assembles.proofs.number_at.Statement.{statement}
 use Rattle.assembles.proofs.number_at.Tie as tie
 
-add-byte-at : tie.Need-add-byte-at
-add-byte-at c = search needs
-
-byte-at-requires : tie.Need-byte-at-requires
-byte-at-requires c κs = search needs
-
-add-byte-at-2 : tie.Need-add-byte-at-2
-add-byte-at-2 c = search needs
-
-byte-at-requires-2 : tie.Need-byte-at-requires-2
-byte-at-requires-2 c κs = search needs
-
-is-digit-requires : tie.Need-is-digit-requires
-is-digit-requires c κs = search needs
-
-worth-requires : tie.Need-worth-requires
-worth-requires c κs = search needs
-
-mul-result : tie.Need-mul-result
-mul-result c = search needs
-
-worth-requires-2 : tie.Need-worth-requires-2
-worth-requires-2 c κs = search needs
-
-add-result : tie.Need-add-result
-add-result c = search needs
-
 returns : tie.Need-returns
 returns c =
     let worth = c .before .worth in
@@ -43,9 +16,6 @@ returns c =
     let byte-at = c .before .before .before .before .before .byte-at in
     let args = c .before .before .before .before .before .before .before .args in
     number-is (args .text .now) (args .at) _ _ _ _ true (byte-at .ensures) (byte-at2 .ensures) (sym (if1 .taken) ∙ is-digit .ensures) (worth .ensures) (c .worth2 .ensures)
-
-worth-requires-3 : tie.Need-worth-requires-3
-worth-requires-3 c κs = search needs
 
 returns-2 : tie.Need-returns-2
 returns-2 c =
@@ -60,15 +30,15 @@ pub number-at-spec : {M : Type 1} → statement M
 number-at-spec =
     tie.close
     (tie.spec
-    add-byte-at
-    byte-at-requires
-    add-byte-at-2
-    byte-at-requires-2
-    is-digit-requires
-    worth-requires
-    mul-result
-    worth-requires-2
-    add-result
+    (λ c. search needs)
+    (λ c κs. search needs)
+    (λ c. search needs)
+    (λ c κs. search needs)
+    (λ c κs. search needs)
+    (λ c κs. search needs)
+    (λ c. search needs)
+    (λ c κs. search needs)
+    (λ c. search needs)
     returns
-    worth-requires-3
+    (λ c κs. search needs)
     returns-2)

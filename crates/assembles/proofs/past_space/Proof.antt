@@ -19,23 +19,12 @@ abbrev μ-loop : tie.MeasureT-loop
 loop-holds : tie.Need-loop-holds Inv-loop μ-loop
 loop-holds c = (c .pre, refl)
 
-shared-slice-read-if1 : tie.Need-shared-slice-read-if1 Inv-loop μ-loop
-shared-slice-read-if1 c = omega arith
-
-add-result : tie.Need-add-result Inv-loop μ-loop
-add-result c = omega arith
-
 returns : tie.Need-returns Inv-loop μ-loop
-returns c = (
-  omega arith,
-  sym (past-here _ _ (c .before .before .loop-test .taken) (c .if1 .taken)) ∙ c .before .before .before .loop .inv .1,
-)
-
-add-at : tie.Need-add-at Inv-loop μ-loop
-add-at c = omega arith
-
-loop-less : tie.Need-loop-less Inv-loop μ-loop
-loop-less c = omega arith
+returns c =
+    record {
+      within = omega arith;
+      rest = sym (past-here _ _ (c .before .before .loop-test .taken) (c .if1 .taken)) ∙ c .before .before .before .loop .inv .1;
+    }
 
 loop-again : tie.Need-loop-again Inv-loop μ-loop
 loop-again c = (
@@ -44,7 +33,7 @@ loop-again c = (
 )
 
 returns-2 : tie.Need-returns-2 Inv-loop μ-loop
-returns-2 c = (c .before .loop .inv .0, sym (past-end _ _ (c .loop-test .left)) ∙ c .before .loop .inv .1)
+returns-2 c = record { within = c .before .loop .inv .0; rest = sym (past-end _ _ (c .loop-test .left)) ∙ c .before .loop .inv .1 }
 
 pub past-space-spec : {M : Type 1} → statement M
 past-space-spec =
@@ -53,10 +42,10 @@ past-space-spec =
     Inv-loop
     μ-loop
     loop-holds
-    shared-slice-read-if1
-    add-result
+    (λ c. omega arith)
+    (λ c. omega arith)
     returns
-    add-at
-    loop-less
+    (λ c. omega arith)
+    (λ c. omega arith)
     loop-again
     returns-2)

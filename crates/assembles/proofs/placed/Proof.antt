@@ -1,21 +1,30 @@
--- `placed` meets its contract: the product of both bounds fits.
+-- `placed` meets its contract: the ones that are shifted up stay within their numbers.
 -- Assumes nothing.
-use Prim.Native.Nat.{_%_, _≤_}
-use native.Mathlib.Nat.{mul-le-mul, mod-lt}
-use native.Mathlib.Omega.{arith}
 use borrow.Author.Needs.{needs}
+use mathlib.Core.Path.{_≡_, _∙_}
+use Prim.Native.Nat.{ℕ, _+_, _*_, _%_, _^_, _≤_, _<_}
+use native.Mathlib.Nat.{one-mul, mod-lt, mod-eq-of-lt, lt-of-lt-of-le}
+use native.Mathlib.Omega.{arith}
+use lib.Pow.{pow-pos, pow-mono, shl-exact, shl-lt}
+use Rattle.words.specs.Field.{registerDigits, qPlace}
 use Rattle.assembles.proofs.placed.Statement.{statement}
 use Rattle.assembles.proofs.placed.Tie as tie
 
-rem-result : tie.Need-rem-result
-rem-result c = search needs
+-- the power of two fits
+power : (digits : ℕ) → digits ≤ registerDigits → 1 * 2 ^ digits % 2 ^ 64 ≡ 2 ^ digits
+power digits h = shl-exact 1 digits 64 (omega arith) (omega arith) ∙ one-mul _
 
-mul-result : tie.Need-mul-result
-mul-result c = let h : c .args .number % c .args .limit ≤ 32 = omega (arith, mod-lt (c .args .number) (c .pre .0)) in
-    omega (arith, mul-le-mul h (c .pre .2))
+-- so does a number of so many digits, shifted up to a place in the word
+within : (x digits low : ℕ) → x < 2 ^ digits → digits ≤ registerDigits → low ≤ qPlace → x * 2 ^ low < 2 ^ 64
+within x digits low h d l = lt-of-lt-of-le (shl-lt digits low h) (pow-mono {i = digits + low} {j = 64} (omega arith))
+
+rem-result : tie.Need-rem-result
+rem-result c = rw (power (c .args .digits) (c .pre .0)) (pow-pos (c .args .digits))
 
 returns : tie.Need-returns
-returns c = search needs
+returns c =
+    rw (power (c .args .digits) (c .pre .0))
+    (mod-eq-of-lt (within (c .args .number % 2 ^ c .args .digits) (c .args .digits) (c .args .low) (mod-lt _ (pow-pos (c .args .digits))) (c .pre .0) (c .pre .1)))
 
 pub placed-spec : {M : Type 1} → statement M
-placed-spec = tie.close (tie.spec rem-result mul-result returns)
+placed-spec = tie.close (tie.spec (λ c. search needs) rem-result (λ c. search needs) returns)

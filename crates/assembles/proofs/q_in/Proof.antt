@@ -6,12 +6,6 @@ use borrow.Author.Needs.{needs}
 use Rattle.assembles.proofs.q_in.Statement.{statement}
 use Rattle.assembles.proofs.q_in.Tie as tie
 
-byte-from-end-requires : tie.Need-byte-from-end-requires
-byte-from-end-requires c κs = search needs
-
-full-digit-requires : tie.Need-full-digit-requires
-full-digit-requires c κs = search needs
-
 returns : tie.Need-returns
 returns c = sym (rw (eq-eqb _ _ (sym (c .before .before .byte-from-end .ensures) ∙ c .if1 .taken ∙ c .before .full-digit .ensures)))
 
@@ -19,4 +13,4 @@ returns-2 : tie.Need-returns-2
 returns-2 c = sym (rw (ne-eqb _ _ (λ e. c .if1 .left (c .before .before .byte-from-end .ensures ∙ e ∙ sym (c .before .full-digit .ensures)))))
 
 pub q-in-spec : {M : Type 1} → statement M
-q-in-spec = tie.close (tie.spec byte-from-end-requires full-digit-requires returns returns-2)
+q-in-spec = tie.close (tie.spec (λ c κs. search needs) (λ c κs. search needs) returns returns-2)

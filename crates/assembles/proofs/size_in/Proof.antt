@@ -8,14 +8,8 @@ use borrow.Author.Needs.{needs}
 use Rattle.assembles.proofs.size_in.Statement.{statement}
 use Rattle.assembles.proofs.size_in.Tie as tie
 
-byte-from-end-requires : tie.Need-byte-from-end-requires
-byte-from-end-requires c κs = search needs
-
-size-of-requires : tie.Need-size-of-requires
-size-of-requires c κs = search needs
-
 returns : tie.Need-returns
 returns c = c .size-of .ensures ∙ ap (λ (b : ℕ). placeOf b letters) (c .before .byte-from-end .ensures)
 
 pub size-in-spec : {M : Type 1} → statement M
-size-in-spec = tie.close (tie.spec byte-from-end-requires size-of-requires returns)
+size-in-spec = tie.close (tie.spec (λ c κs. search needs) (λ c κs. search needs) returns)

@@ -7,7 +7,7 @@ use Prim.Native.Nat.{ℕ, _≤_, _<_, _-_, _%_}
 use native.Mathlib.Nat.{mod-lt}
 use native.Mathlib.Omega.{arith}
 use lib.Pow.{pow-pos}
-use Rattle.words.specs.Table.{rows, rowAt}
+use Rattle.words.specs.Table.{rows, rowValue}
 use Rattle.count_words.specs.Tally.{blockWords}
 use Rattle.count_words.proofs.Blocks.{Upper, other-half, same-half}
 use Rattle.count_words.proofs.block_matches.Statement.{statement}
@@ -19,39 +19,34 @@ Inv-loop upper i₀ i = (i ≤ rows) × ((j : ℕ) → j < i → Upper upper j �
 abbrev μ-loop : tie.MeasureT-loop
 μ-loop upper i₀ i = rows - i
 
+-- the places: where the row is read, and the loop's head
+abbrev row : tie.After-struct-known2 Inv-loop μ-loop → tie.After-row-at Inv-loop μ-loop
+row c = c .before .before
+
+abbrev head : tie.After-row-at Inv-loop μ-loop → tie.At-loop Inv-loop μ-loop
+head c = c .before .before
+
 loop-holds : tie.Need-loop-holds Inv-loop μ-loop
 loop-holds c = (omega arith, λ j h. absurd (omega arith))
 
-mul-row : tie.Need-mul-row Inv-loop μ-loop
-mul-row c = search needs
-
-array-copy-out-row : tie.Need-array-copy-out-row Inv-loop μ-loop
-array-copy-out-row c = search needs
-
 returns : tie.Need-returns Inv-loop μ-loop
 returns c =
-    let start = c .before .before .before .before .before .before in
-    let i = c .before .before .before .before .before .loop .i in
-    let below = c .before .before .before .before .loop-test .taken in (
+    let at = row (c .before) in
+    let start = head at .before in
+    let i = head at .loop .i in
+    let below = at .before .loop-test .taken in (
       λ e low j hl hj. cc,
-      λ none. sym (same-half (start .args .upper) i (start .pre) below (c .if1 .taken))
-          ∙ none (rowAt i .value % blockWords) i (mod-lt (rowAt i .value) (pow-pos 16)) below,
+      λ none. sym (same-half (start .args .upper) i (start .pre) below (rw (at .row-at .ensures) at (c .if1 .taken)))
+          ∙ none (rowValue i % blockWords) i (mod-lt (rowValue i) (pow-pos 16)) below,
     )
 
-add-i : tie.Need-add-i Inv-loop μ-loop
-add-i c = search needs
-
-loop-less : tie.Need-loop-less Inv-loop μ-loop
-loop-less c = omega arith
-
 loop-again : tie.Need-loop-again Inv-loop μ-loop
-loop-again c = (
-  omega arith,
-  below-more (λ (j : ℕ). Upper (c .before .before .before .before .before .before .args .upper) j → ⊥)
-      (c .before .before .before .before .before .loop .i)
-      (c .before .before .before .before .before .loop .inv .1)
-      (c .if1 .left),
-)
+loop-again c =
+    let at = row (c .before) in (
+      omega arith,
+      below-more (λ (j : ℕ). Upper (head at .before .args .upper) j → ⊥) (head at .loop .i) (head at .loop .inv .1)
+          (rw (at .row-at .ensures) at (c .if1 .left)),
+    )
 
 returns-2 : tie.Need-returns-2 Inv-loop μ-loop
 returns-2 c = (
@@ -60,16 +55,4 @@ returns-2 c = (
 )
 
 pub block-matches-spec : {M : Type 1} → statement M
-block-matches-spec =
-    tie.close
-    (tie.spec
-    Inv-loop
-    μ-loop
-    loop-holds
-    mul-row
-    array-copy-out-row
-    returns
-    add-i
-    loop-less
-    loop-again
-    returns-2)
+block-matches-spec = tie.close (tie.spec Inv-loop μ-loop loop-holds (λ c κs. search needs) returns (λ c. search needs) (λ c. omega arith) loop-again returns-2)

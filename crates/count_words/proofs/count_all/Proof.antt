@@ -38,12 +38,6 @@ add-count c =
       tally-most (c .before .before .before .args .counted) 0 ((c .before .before .loop .upper + 1) * blockWords),
     )
 
-add-upper : tie.Need-add-upper Inv-loop μ-loop
-add-upper c = search needs
-
-loop-less : tie.Need-loop-less Inv-loop μ-loop
-loop-less c = omega arith
-
 loop-again : tie.Need-loop-again Inv-loop μ-loop
 loop-again c = (omega arith, next c)
 
@@ -62,7 +56,7 @@ count-all-spec =
     loop-holds
     count-block-requires
     add-count
-    add-upper
-    loop-less
+    (λ c. search needs)
+    (λ c. omega arith)
     loop-again
     returns)

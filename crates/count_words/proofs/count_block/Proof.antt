@@ -8,18 +8,6 @@ use Rattle.count_words.proofs.Tallies.{tally-none}
 use Rattle.count_words.proofs.count_block.Statement.{statement}
 use Rattle.count_words.proofs.count_block.Tie as tie
 
-cast-block-matches : tie.Need-cast-block-matches
-cast-block-matches c = search needs
-
-block-matches-requires : tie.Need-block-matches-requires
-block-matches-requires c κs = search needs
-
-count-each-requires : tie.Need-count-each-requires
-count-each-requires c κs = search needs
-
-returns : tie.Need-returns
-returns c = search needs
-
 returns-2 : tie.Need-returns-2
 returns-2 c =
     sym
@@ -33,4 +21,4 @@ returns-2 c =
 pub count-block-spec : {M : Type 1} → statement M
 count-block-spec =
     tie.close
-    (tie.spec cast-block-matches block-matches-requires count-each-requires returns returns-2)
+    (tie.spec (λ c. search needs) (λ c κs. search needs) (λ c κs. search needs) (λ c. search needs) returns-2)

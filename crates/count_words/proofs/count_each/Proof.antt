@@ -22,24 +22,6 @@ loop-holds : tie.Need-loop-holds Inv-loop μ-loop
 unfolding tally
 loop-holds c = (omega arith, refl)
 
-mul-word : tie.Need-mul-word Inv-loop μ-loop
-mul-word c = search needs
-
-add-word : tie.Need-add-word Inv-loop μ-loop
-add-word c = search needs
-
-cast-word : tie.Need-cast-word Inv-loop μ-loop
-cast-word c = search needs
-
-decode-requires : tie.Need-decode-requires Inv-loop μ-loop
-decode-requires c κs = search needs
-
-number-of-requires : tie.Need-number-of-requires Inv-loop μ-loop
-number-of-requires c κs = search needs
-
-one-if-requires : tie.Need-one-if-requires Inv-loop μ-loop
-one-if-requires c κs = search needs
-
 -- what is added is whether the word at hand is counted
 added : (c : tie.After-one-if Inv-loop μ-loop)
     → c .one-if .result
@@ -73,12 +55,6 @@ add-count c =
           (c .before .before .before .before .loop .low + 1),
     )
 
-add-low : tie.Need-add-low Inv-loop μ-loop
-add-low c = search needs
-
-loop-less : tie.Need-loop-less Inv-loop μ-loop
-loop-less c = omega arith
-
 loop-again : tie.Need-loop-again Inv-loop μ-loop
 loop-again c = (omega arith, next c)
 
@@ -94,14 +70,14 @@ count-each-spec =
     Inv-loop
     μ-loop
     loop-holds
-    mul-word
-    add-word
-    cast-word
-    decode-requires
-    number-of-requires
-    one-if-requires
+    (λ c. search needs)
+    (λ c. search needs)
+    (λ c. search needs)
+    (λ c κs. search needs)
+    (λ c κs. search needs)
+    (λ c κs. search needs)
     add-count
-    add-low
-    loop-less
+    (λ c. search needs)
+    (λ c. omega arith)
     loop-again
     returns)

@@ -4,121 +4,117 @@ use borrow.Author.Needs.{needs}
 use borrow.Author.Tests.{le-leb, lt-leb}
 use Prim.Native.Nat.{ℕ, _≤_, _<_}
 use mathlib.Core.Path.{_≡_, sym, _∙_}
-use mathlib.Core.Bool.{cond}
-use mathlib.Core.List.{List}
+use mathlib.Core.List.{List, _++_}
 use native.Mathlib.Omega.{arith}
 use denote.Ref.{now}
-use lib.Dec.{leb}
 use lib.ListN.{length}
-use Rattle.machine.specs.Refusal.{DONE, END}
-use Rattle.machine.proofs.Checks.{legal-most}
-use Rattle.pane.specs.Word.{wordsOf}
-use Rattle.pane.proofs.Tests.{first}
-use Rattle.journal.specs.Layout.{countOf}
-use Rattle.journal.specs.Calls.{startRefused}
-use Rattle.journal.proofs.Refusals.{fileTests, programTests, journalTests, refused-early, refused-later}
-use Rattle.journal.proofs.Formed.{files-checked, journal-checked}
+use Rattle.machine.specs.Refusal.{DONE, END, filesTests, programTests, refused}
+use Rattle.machine.proofs.Checks.{legal-most, files-checked}
+use Rattle.machine.proofs.Tests.{refused-early, refused-later}
+use Rattle.registers.specs.State.{state}
+use Rattle.programs.specs.Word.{wordsOf, endTests}
+use Rattle.journal.specs.Layout.{positionOf}
+use Rattle.journal.specs.Calls.{journalTests, startRefused}
+use Rattle.journal.proofs.Formed.{journal-checked}
 use Rattle.journal.proofs.check_step.Statement.{statement}
 use Rattle.journal.proofs.check_step.Tie as tie
 
 -- what the last test, the journal's with it, and the program's with these answer
-ended : List ℕ → List ℕ → ℕ
-ended program journal = cond (leb (wordsOf (length program)) (countOf journal)) END DONE
+abbrev ended : List ℕ → List ℕ → ℕ
+ended program journal = refused (endTests (length program) (positionOf journal))
 
-judged : ℕ → List ℕ → List ℕ → ℕ
-judged k program journal = first (journalTests k journal) (ended program journal)
+abbrev judged : ℕ → List ℕ → List ℕ → ℕ
+judged k program journal = refused (journalTests k journal ++ endTests (length program) (positionOf journal))
 
-listed : ℕ → List ℕ → List ℕ → ℕ
-listed k program journal = first (programTests (length program)) (judged k program journal)
+abbrev listed : ℕ → List ℕ → List ℕ → ℕ
+listed k program journal = refused (programTests (length program) ++ journalTests k journal ++ endTests (length program) (positionOf journal))
+
+-- the position's test
+at-end : (program journal : List ℕ) → wordsOf (length program) ≤ positionOf journal → ended program journal ≡ END
+at-end program journal h = rw (le-leb _ _ h)
+
+inside : (program journal : List ℕ) → positionOf journal < wordsOf (length program) → ended program journal ≡ DONE
+inside program journal h = rw (lt-leb _ _ h)
+
+abbrev start : tie.After-check-files → tie.Start
+start c = c .before .before .before .before .before
+
+-- the answer of the call
+abbrev answer : tie.Start → ℕ
+answer s = let a = s .args in startRefused (a .k) (state (now (a .z)) (now (a .p))) (now (a .program)) (now (a .journal))
 
 -- past each check the later ones decide
-decides : (c : tie.Else1) →
-    let a = c .before .before .before .before .before .before .args in
-    startRefused (a .k) (now (a .z)) (now (a .p)) (now (a .program)) (now (a .journal)) ≡ listed (a .k) (now (a .program)) (now (a .journal))
-unfolding startRefused listed judged ended
-decides c =
-    let a = c .before .before .before .before .before .before .args in
-    refused-later (fileTests (a .k) (length (now (a .z))) (length (now (a .p)))) tt _ _ (c .before .check-files .ensures) (c .if1 .left)
+files-passed : (c : tie.Else1) → let a = start (c .before) .args in answer (start (c .before)) ≡ listed (a .k) (now (a .program)) (now (a .journal))
+unfolding startRefused
+files-passed c =
+    let a = start (c .before) .args in
+    refused-later (filesTests (a .k) (length (now (a .z))) (length (now (a .p)))) tt (listed (a .k) (now (a .program)) (now (a .journal))) _ (c .before .check-files .ensures) (c .if1 .left)
 
-decides-2 : (c : tie.Else2) →
-    let a = c .before .before .before .before .before .before .before .before .args in
-    startRefused (a .k) (now (a .z)) (now (a .p)) (now (a .program)) (now (a .journal)) ≡ judged (a .k) (now (a .program)) (now (a .journal))
-unfolding listed
-decides-2 c =
-    let a = c .before .before .before .before .before .before .before .before .args in
-    decides (c .before .before)
-    ∙ refused-later (programTests (length (now (a .program)))) tt _ _ (c .before .check-program .ensures) (c .if2 .left)
+program-passed : (c : tie.Else2) →
+    let s = start (c .before .before .before) in answer s ≡ judged (s .args .k) (now (s .args .program)) (now (s .args .journal))
+program-passed c =
+    let a = start (c .before .before .before) .args in
+    files-passed (c .before .before)
+    ∙ refused-later (programTests (length (now (a .program)))) tt (judged (a .k) (now (a .program)) (now (a .journal))) _ (c .before .check-program .ensures) (c .if2 .left)
 
-decides-3 : (c : tie.Else3) →
-    let a = c .before .before .before .before .before .before .before .before .before .before .args in
-    startRefused (a .k) (now (a .z)) (now (a .p)) (now (a .program)) (now (a .journal)) ≡ ended (now (a .program)) (now (a .journal))
-unfolding judged
-decides-3 c =
-    let a = c .before .before .before .before .before .before .before .before .before .before .args in
-    decides-2 (c .before .before)
-    ∙ refused-later (journalTests (a .k) (now (a .journal))) tt _ _ (c .before .check-journal .ensures) (c .if3 .left)
-
-check-files-requires : tie.Need-check-files-requires
-check-files-requires c κs = search needs
+journal-passed : (c : tie.Else3) →
+    let s = start (c .before .before .before .before .before) in answer s ≡ ended (now (s .args .program)) (now (s .args .journal))
+journal-passed c =
+    let a = start (c .before .before .before .before .before) .args in
+    program-passed (c .before .before)
+    ∙ refused-later (journalTests (a .k) (now (a .journal))) tt (ended (now (a .program)) (now (a .journal))) _ (c .before .check-journal .ensures) (c .if3 .left)
 
 returns : tie.Need-returns
-unfolding startRefused listed judged ended
+unfolding startRefused
 returns c =
-    let a = c .before .before .before .before .before .before .args in
-    refused-early (fileTests (a .k) (length (now (a .z))) (length (now (a .p)))) tt (listed (a .k) (now (a .program)) (now (a .journal))) _ (c .before .check-files .ensures) (c .if1 .taken)
-
-check-program-requires : tie.Need-check-program-requires
-check-program-requires c κs = search needs
+    let a = start (c .before) .args in
+    refused-early (filesTests (a .k) (length (now (a .z))) (length (now (a .p)))) tt (listed (a .k) (now (a .program)) (now (a .journal))) _ (c .before .check-files .ensures) (c .if1 .taken)
 
 returns-2 : tie.Need-returns-2
-unfolding listed
 returns-2 c =
-    let a = c .before .before .before .before .before .before .before .before .args in
+    let a = start (c .before .before .before) .args in
     refused-early (programTests (length (now (a .program)))) tt (judged (a .k) (now (a .program)) (now (a .journal))) _ (c .before .check-program .ensures) (c .if2 .taken)
-    ∙ sym (decides (c .before .before))
+    ∙ sym (files-passed (c .before .before))
 
 check-journal-requires : tie.Need-check-journal-requires
 check-journal-requires c κs =
     let f = c .before .before in
-    let a = f .before .before .before .before .before .before .args in
-    legal-most _ (files-checked (a .k) (length (now (a .z))) (length (now (a .p))) _ (f .before .check-files .ensures) (f .if1 .left) .legal)
+    let a = start (f .before) .args in
+    legal-most _ (files-checked (a .k) (now (a .z)) (now (a .p)) _ (f .before .check-files .ensures) (f .if1 .left) .legal)
 
 returns-3 : tie.Need-returns-3
-unfolding judged
 returns-3 c =
-    let a = c .before .before .before .before .before .before .before .before .before .before .args in
+    let a = start (c .before .before .before .before .before) .args in
     refused-early (journalTests (a .k) (now (a .journal))) tt (ended (now (a .program)) (now (a .journal))) _ (c .before .check-journal .ensures) (c .if3 .taken)
-    ∙ sym (decides-2 (c .before .before))
+    ∙ sym (program-passed (c .before .before))
 
-count-of-requires : tie.Need-count-of-requires
-count-of-requires c κs =
-    let a = c .before .before .before .before .before .before .before .before .before .before .args in
+position-of-requires : tie.Need-position-of-requires
+position-of-requires c κs =
+    let a = start (c .before .before .before .before .before) .args in
     journal-checked (a .k) _ (now (a .journal)) (c .before .check-journal .ensures) (c .if3 .left) .least
 
 returns-4 : tie.Need-returns-4
-unfolding ended
 returns-4 c =
-    let a = c .before .before .before .before .before .before .before .before .before .before .before .before .args in
-    let h : wordsOf (length (now (a .program))) ≤ countOf (now (a .journal)) = omega arith in
-    rw (decides-3 (c .before .before), le-leb _ _ h)
+    let j = c .before .before in
+    let a = start (j .before .before .before .before .before) .args in
+    sym (journal-passed j ∙ at-end (now (a .program)) (now (a .journal)) (omega arith))
 
 returns-5 : tie.Need-returns-5
-unfolding ended
 returns-5 c =
-    let a = c .before .before .before .before .before .before .before .before .before .before .before .before .args in
-    let h : countOf (now (a .journal)) < wordsOf (length (now (a .program))) = omega arith in
-    rw (decides-3 (c .before .before), lt-leb _ _ h)
+    let j = c .before .before in
+    let a = start (j .before .before .before .before .before) .args in
+    sym (journal-passed j ∙ inside (now (a .program)) (now (a .journal)) (omega arith))
 
 pub check-step-spec : {M : Type 1} → statement M
 check-step-spec =
     tie.close
     (tie.spec
-    check-files-requires
+    (λ c κs. search needs)
     returns
-    check-program-requires
+    (λ c κs. search needs)
     returns-2
     check-journal-requires
     returns-3
-    count-of-requires
+    position-of-requires
     returns-4
     returns-5)

@@ -2,75 +2,77 @@
 -- Assumes nothing.
 use borrow.Author.Needs.{needs}
 use borrow.Author.Tests.{le-leb, lt-leb}
-use Prim.Native.Nat.{_≤_, _<_}
-use mathlib.Core.Path.{refl}
+use Prim.Native.Nat.{ℕ, _≤_, _<_}
+use mathlib.Core.Path.{_≡_, refl, ap}
+use mathlib.Core.List.{List}
 use native.Mathlib.Omega.{arith}
 use denote.Ref.{now}
 use lib.ListN.{length}
+use Rattle.machine.specs.Refusal.{DONE, FULL}
 use Rattle.machine.proofs.Checks.{legal-most}
-use Rattle.journal.specs.Layout.{capacity, countOf}
-use Rattle.journal.proofs.Places.{entry-inside}
+use Rattle.registers.specs.State.{State, state}
+use Rattle.words.specs.declared.Fields.{Fields}
+use Rattle.executes.specs.Execute.{executed}
+use Rattle.journal.specs.Layout.{capacity, heldOf, pushed}
+use Rattle.journal.specs.Calls.{entryFor, Performed}
+use Rattle.journal.proofs.Accepted.{can-append}
 use Rattle.journal.proofs.perform.Statement.{statement}
 use Rattle.journal.proofs.perform.Tie as tie
 
+-- no further entry fits; and one does
+full : (f : Fields) (k : ℕ) (s : State) (journal : List ℕ) → capacity k (length journal) ≤ heldOf journal → Performed f k s journal FULL s journal
+full f k s journal h = rw (le-leb _ _ h) (record { answered = refl; files = refl; bytes = refl })
+
+performed : (f : Fields) (k : ℕ) (s : State) (journal z-after after : List ℕ) → heldOf journal < capacity k (length journal)
+    → z-after ≡ executed f k s .z → after ≡ pushed k (entryFor k f s) journal
+    → Performed f k s journal DONE (state z-after (s .p)) after
+performed f k s journal z-after after h files bytes =
+    rw (lt-leb _ _ h) (record { answered = refl; files = ap (λ (z : List ℕ). state z (s .p)) files; bytes = bytes })
+
+abbrev start : tie.After-held-of → tie.Start
+start c = c .before .before .before .before .before .before
+
+abbrev lent : tie.Start → State
+lent s = state (now (s .args .z)) (now (s .args .p))
+
+abbrev appended : tie.After-execute → tie.After-append
+appended c = c .before .before .before .before
+
+-- past the test an entry fits
+fits : (c : tie.Else1) → let a = start (c .before) .args in heldOf (now (a .journal)) < capacity (a .k) (length (now (a .journal)))
+fits c = omega arith
+
 capacity-requires : tie.Need-capacity-requires
-capacity-requires c κs =
-    let s = c .before .before .before in
-    (legal-most _ (s .pre .word .legal), s .pre .header)
-
-count-of-requires : tie.Need-count-of-requires
-count-of-requires c κs = search needs
-
-same-length : tie.Need-same-length
-same-length c = search needs
+capacity-requires c κs = let s = c .before .before .before in (legal-most _ (s .pre .word .lent .legal), s .pre .header)
 
 returns : tie.Need-returns
 returns c =
-    let a = c .before .before .before .before .before .before .before .args in
-    let h : capacity (a .k) (length (now (a .journal))) ≤ countOf (now (a .journal)) = omega arith in
-    rw (le-leb _ _ h) (refl, refl, refl)
+    let s = start (c .before) in
+    full (s .args .f) (s .args .k) (lent s) (now (s .args .journal)) (omega arith)
 
 append-requires : tie.Need-append-requires
 append-requires c κs =
-    let s = c .before .before .before .before .before .before .before .before .before in
-    let h : countOf (now (s .args .journal)) < capacity (s .args .k) (length (now (s .args .journal))) = omega arith in
-    record {
-      file = s .pre .word .vectorSize;
-      register = s .pre .word .fields .d;
-      entry = record {
-        legal = legal-most _ (s .pre .word .legal);
-        few = omega (arith, s .pre .few);
-        inside = entry-inside (s .args .k) (length (now (s .args .journal))) (countOf (now (s .args .journal))) (s .pre .header) h;
-      };
-    }
-
-execute-requires : tie.Need-execute-requires
-execute-requires c κs = search needs
-
-same-length-2 : tie.Need-same-length-2
-same-length-2 c = search needs
-
-same-length-3 : tie.Need-same-length-3
-same-length-3 c = search needs
+    let e = c .before .before in
+    let s = start (e .before) in
+    can-append (s .args .k) (s .args .f) (lent s) (now (s .args .journal)) (s .pre) (fits e)
 
 returns-2 : tie.Need-returns-2
 returns-2 c =
-    let e = c .before .before .before .before .before .before in
-    let a = e .before .before .before .before .before .before .before .before .before .before .args in
-    let h : countOf (now (a .journal)) < capacity (a .k) (length (now (a .journal))) =
-    omega (arith, e .before .before .before .if1 .left, e .before .before .before .before .count-of .ensures, e .before .before .before .before .before .before .capacity .ensures) in
-    rw (lt-leb _ _ h) (refl, c .before .before .execute .ensures, e .append .ensures)
+    let x = c .before .before in
+    let e = appended x .before .before .before in
+    let s = start (e .before) in
+    performed (s .args .f) (s .args .k) (lent s) (now (s .args .journal)) _ _ (fits e) (x .execute .ensures) (appended x .append .ensures)
 
 pub perform-spec : {M : Type 1} → statement M
 perform-spec =
     tie.close
     (tie.spec
     capacity-requires
-    count-of-requires
-    same-length
+    (λ c κs. search needs)
+    (λ c. search needs)
     returns
     append-requires
-    execute-requires
-    same-length-2
-    same-length-3
+    (λ c κs. search needs)
+    (λ c. search needs)
+    (λ c. search needs)
     returns-2)

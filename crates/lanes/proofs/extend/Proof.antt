@@ -3,11 +3,11 @@
 -- Assumes nothing.
 use borrow.Author.Needs.{needs}
 use borrow.Author.Tests.{not-true, not-false, le-leb, lt-leb}
-use Prim.Native.Nat.{ℕ, _+_, _*_, _-_, _%_, _^_, _≤_}
+use Prim.Native.Nat.{_*_, _-_, _%_, _^_, _≤_}
 use mathlib.Core.Path.{_≡_, sym, _∙_}
 use native.Mathlib.Omega.{arith}
 use lib.Pow.{pow-mono}
-use Rattle.lanes.specs.Lane.{bitsOf}
+use Rattle.parts.specs.Number.{bitsOf}
 use Rattle.lanes.proofs.Residues.{extended, top-digit}
 use Rattle.lanes.proofs.extend.Statement.{statement}
 use Rattle.lanes.proofs.extend.Tie as tie
@@ -23,26 +23,14 @@ narrow c = pow-mono {i = bitsOf (c .before .args .w)} {j = 64} (omega arith)
 returns : tie.Need-returns
 returns c =
     let a = c .before .args in
-    sym (extended (a .signed) (bitsOf (a .w)) 64 (a .n) (omega arith) (c .before .pre .2) ∙ rw (not-true (a .signed) (c .if1 .taken)))
-
-mul-half : tie.Need-mul-half
-mul-half c = search needs
-
-sub-half : tie.Need-sub-half
-sub-half c = search needs
-
-shl-half : tie.Need-shl-half
-shl-half c = search needs
+    sym (extended (a .signed) (bitsOf (a .w)) 64 (a .n) (omega arith) (c .before .pre .digits) ∙ rw (not-true (a .signed) (c .if1 .taken)))
 
 returns-2 : tie.Need-returns-2
 returns-2 c =
     let a = c .before .before .args in
     sym
-    (extended (a .signed) (bitsOf (a .w)) 64 (a .n) (omega arith) (c .before .before .pre .2)
+    (extended (a .signed) (bitsOf (a .w)) 64 (a .n) (omega arith) (c .before .before .pre .digits)
     ∙ rw (not-false (a .signed) (c .before .if1 .left), lt-leb (2 ^ bitsOf (a .w)) (2 * a .n) (omega (arith, half (c .before)))))
-
-sub-result : tie.Need-sub-result
-sub-result c = search needs
 
 sub-result-2 : tie.Need-sub-result-2
 sub-result-2 c = omega (arith, half (c .before), lib.Pow.pow-pos (bitsOf (c .before .before .args .w)))
@@ -51,17 +39,16 @@ sub-result-3 : tie.Need-sub-result-3
 sub-result-3 c = omega (arith, half (c .before), narrow (c .before))
 
 add-result : tie.Need-add-result
-add-result c = omega (arith, half (c .before), narrow (c .before), c .before .before .pre .2)
+add-result c = omega (arith, half (c .before), narrow (c .before), c .before .before .pre .digits)
 
 returns-3 : tie.Need-returns-3
 returns-3 c =
     let a = c .before .before .args in
     sym
-    (extended (a .signed) (bitsOf (a .w)) 64 (a .n) (omega arith) (c .before .before .pre .2)
+    (extended (a .signed) (bitsOf (a .w)) 64 (a .n) (omega arith) (c .before .before .pre .digits)
     ∙ rw (not-false (a .signed) (c .before .if1 .left), le-leb (2 ^ bitsOf (a .w)) (2 * a .n) (omega (arith, half (c .before))))
     (omega (arith, half (c .before), narrow (c .before))))
 
 pub extend-spec : {M : Type 1} → statement M
 extend-spec =
-    tie.close
-    (tie.spec returns mul-half sub-half shl-half returns-2 sub-result sub-result-2 sub-result-3 add-result returns-3)
+    tie.close (tie.spec returns (λ c. search needs) (λ c. search needs) (λ c. search needs) returns-2 (λ c. search needs) sub-result-2 sub-result-3 add-result returns-3)

@@ -1,67 +1,55 @@
 -- `place_of` meets its contract: with a refusal its number alone, else the place within the file.
 -- Assumes nothing.
-use mathlib.Core.Path.{_≡_, sym, _∙_, ap}
-use Rattle.machine.specs.Refusal.{DONE}
-use Rattle.pane.specs.Register.{registerRefused}
-use Rattle.pane.proofs.Registers.{Drawn, drawn}
-use lib.ListN.{length}
-use Rattle.ln.proofs.Placing.{placed-none, placed-done}
+use Prim.Native.Nat.{ℕ, zero, suc}
+use mathlib.Core.Path.{_≡_, refl, sym, _∙_}
+use denote.Ref.{now}
 use borrow.Author.Needs.{needs}
+use Rattle.registers.specs.declared.Kind.{Kind}
+use Rattle.pane.specs.Drawn.{registerRefused}
+use Rattle.pane.proofs.Drawing.{drawable, in-file}
+use Rattle.registers.specs.Register.{fileOf, InFile}
+use Rattle.ln.specs.Outside.{placeOut}
 use Rattle.ln.proofs.place_of.Statement.{statement}
 use Rattle.ln.proofs.place_of.Tie as tie
 
+-- where the function started
+abbrev start : tie.After-register-refusal → tie.Start
+start c = c .before .before .before
+
 -- past the refusal the register can be drawn
-fits : (c : tie.Else1)
-    → let s = c .before .before .before .before in
-    Drawn (s .args .k) (length (s .args .z .now)) (length (s .args .p .now)) (s .args .kind) (s .args .number)
-fits c =
-    let s = c .before .before .before .before in
-    drawn (s .args .k) (length (s .args .z .now)) (length (s .args .p .now)) (s .args .kind) (s .args .number)
-    (sym (c .before .register-refusal .ensures) ∙ c .if1 .left)
+done : (c : tie.Else1) → let a = start (c .before) .args in registerRefused (a .k) (now (a .z)) (now (a .p)) (a .kind) (a .number) ≡ 0
+done c = sym (c .before .register-refusal .ensures) ∙ c .if1 .left
 
-register-refusal-requires : tie.Need-register-refusal-requires
-register-refusal-requires c κs = search needs
+lies : (c : tie.Else1) → let a = start (c .before) .args in InFile (a .k) (a .kind) (a .number) (fileOf (a .kind) (now (a .z)) (now (a .p)))
+lies c =
+    let a = start (c .before) .args in
+    in-file (a .k) (now (a .z)) (now (a .p)) (a .kind) (a .number) (drawable (a .k) (now (a .z)) (now (a .p)) (a .kind) (a .number) (done c))
 
-no-place-requires : tie.Need-no-place-requires
-no-place-requires c κs = search needs
+-- with a refusal the number alone
+none : (n k : ℕ) (kind : Kind) (r : ℕ) → (n ≡ 0 → ⊥) → record { number = n; predicate = 0; start = 0; bytes = 0 } ≡ placeOut n k kind r
+none zero k kind r h = absurd (h refl)
+none (suc n) k kind r h = refl
 
 returns : tie.Need-returns
 returns c =
-    let s = c .before .before .before .before .before in
+    let a = start (c .before .before) .args in
+    let refusal = c .before .before .register-refusal in
     c .no-place .ensures
-    ∙ rw (c .before .before .register-refusal .ensures)
-    (placed-none _ (s .args .k) (s .args .kind) (s .args .number) (λ e. c .before .if1 .taken (c .before .before .register-refusal .ensures ∙ e)))
-
-cast-t8 : tie.Need-cast-t8
-cast-t8 c = search needs
-
-flag-of-requires : tie.Need-flag-of-requires
-flag-of-requires c κs = search needs
-
-register-start-requires : tie.Need-register-start-requires
-register-start-requires c κs = (fits (c .before) .most, fits (c .before) .below)
-
-register-bytes-requires : tie.Need-register-bytes-requires
-register-bytes-requires c κs = fits (c .before .before) .most
+    ∙ rw (refusal .ensures) (none _ (a .k) (a .kind) (a .number) (λ e. c .before .if1 .taken (refusal .ensures ∙ e)))
 
 returns-2 : tie.Need-returns-2
 returns-2 c =
-    let s = c .before .before .before .before .before .before .before in
-    placed-done _ (s .args .k) (s .args .kind) (s .args .number) _ _ _
-    (sym (c .before .before .before .before .register-refusal .ensures) ∙ c .before .before .before .if1 .left)
-    (c .before .before .flag-of .ensures)
-    (c .before .register-start .ensures)
-    (c .register-bytes .ensures)
+    rw (done (c .before .before .before), c .before .before .flag-of .ensures, c .before .register-at .ensures, c .register-bytes .ensures)
 
 pub place-of-spec : {M : Type 1} → statement M
 place-of-spec =
     tie.close
     (tie.spec
-    register-refusal-requires
-    no-place-requires
+    (λ c κs. search needs)
+    (λ c κs. search needs)
     returns
-    cast-t8
-    flag-of-requires
-    register-start-requires
-    register-bytes-requires
+    (λ c. search needs)
+    (λ c κs. search needs)
+    (λ c κs. (lies (c .before) .legal, lies (c .before) .register))
+    (λ c κs. lies (c .before .before) .legal)
     returns-2)

@@ -2,11 +2,10 @@
 -- Assumes nothing.
 use borrow.Author.Needs.{needs}
 use borrow.Author.Tests.{eq-eqb, ne-eqb, not-true, not-false}
-use mathlib.Core.Path.{_≡_, sym, _∙_, ap}
+use mathlib.Core.Path.{_≡_, sym, _∙_}
 use mathlib.Core.Bool.{true}
 use lib.ListN.{length}
 use denote.Ref.{now}
-use lib.Dec.{eqb}
 use Rattle.machine.specs.Size.{isLegal, vectorFile}
 use Rattle.machine.proofs.Checks.{legal-most}
 use Rattle.machine.proofs.check_files.Statement.{statement}
@@ -19,9 +18,6 @@ legal c = sym (c .before .is-legal .ensures) ∙ not-false _ (c .if1 .left)
 -- past the second test the vector file has its size
 vectors-fit : (c : tie.Else2) → length (now (c .before .before .before .before .before .before .args .z)) ≡ vectorFile (c .before .before .before .before .before .before .args .k)
 vectors-fit c = c .if2 .left ∙ c .before .vector-file .ensures
-
-is-legal-requires : tie.Need-is-legal-requires
-is-legal-requires c κs = search needs
 
 returns : tie.Need-returns
 returns c = rw (sym (c .before .is-legal .ensures) ∙ not-true _ (c .if1 .taken))
@@ -55,4 +51,4 @@ returns-4 c =
 pub check-files-spec : {M : Type 1} → statement M
 check-files-spec =
     tie.close
-    (tie.spec is-legal-requires returns vector-file-requires returns-2 predicate-file-requires returns-3 returns-4)
+    (tie.spec (λ c κs. search needs) returns vector-file-requires returns-2 predicate-file-requires returns-3 returns-4)

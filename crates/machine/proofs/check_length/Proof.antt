@@ -5,9 +5,6 @@ use mathlib.Core.Path.{sym, _∙_}
 use Rattle.machine.proofs.check_length.Statement.{statement}
 use Rattle.machine.proofs.check_length.Tie as tie
 
-is-legal-requires : tie.Need-is-legal-requires
-is-legal-requires c κs = search needs
-
 returns : tie.Need-returns
 returns c = rw (sym (c .before .is-legal .ensures) ∙ c .if1 .taken)
 
@@ -15,4 +12,4 @@ returns-2 : tie.Need-returns-2
 returns-2 c = rw (sym (c .before .is-legal .ensures) ∙ c .if1 .left)
 
 pub check-length-spec : {M : Type 1} → statement M
-check-length-spec = tie.close (tie.spec is-legal-requires returns returns-2)
+check-length-spec = tie.close (tie.spec (λ c κs. search needs) returns returns-2)

@@ -8,9 +8,6 @@ use Rattle.machine.proofs.check_program.Tie as tie
 returns : tie.Need-returns
 returns c = rw (ne-eqb _ _ (c .if1 .taken))
 
-mul-if2 : tie.Need-mul-if2
-mul-if2 c = search needs
-
 returns-2 : tie.Need-returns-2
 returns-2 c = rw (eq-eqb _ _ (c .before .if1 .left), lt-leb _ _ (c .if2 .taken))
 
@@ -18,4 +15,4 @@ returns-3 : tie.Need-returns-3
 returns-3 c = rw (eq-eqb _ _ (c .before .if1 .left), le-leb _ _ (c .if2 .left))
 
 pub check-program-spec : {M : Type 1} → statement M
-check-program-spec = tie.close (tie.spec returns mul-if2 returns-2 returns-3)
+check-program-spec = tie.close (tie.spec returns (λ c. search needs) returns-2 returns-3)

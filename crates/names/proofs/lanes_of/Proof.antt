@@ -8,14 +8,8 @@ use lib.Pow.{shl-exact}
 use Rattle.names.proofs.lanes_of.Statement.{statement}
 use Rattle.names.proofs.lanes_of.Tie as tie
 
-shl-result : tie.Need-shl-result
-shl-result c = search needs
-
-shr-result : tie.Need-shr-result
-shr-result c = search needs
-
 returns : tie.Need-returns
 returns c = ap (λ (x : ℕ). x / 2 ^ (c .args .size)) (shl-exact 4 (c .args .q) 64 (omega arith) (omega arith))
 
 pub lanes-of-spec : {M : Type 1} → statement M
-lanes-of-spec = tie.close (tie.spec shl-result shr-result returns)
+lanes-of-spec = tie.close (tie.spec (λ c. search needs) (λ c. search needs) returns)

@@ -7,9 +7,6 @@ use Rattle.names.specs.Text.{letters, letterOf}
 use Rattle.names.proofs.letter_of.Statement.{statement}
 use Rattle.names.proofs.letter_of.Tie as tie
 
-array-read-result : tie.Need-array-read-result
-array-read-result c = search needs
-
 returns : tie.Need-returns
 unfolding letterOf
 returns c = refl
@@ -19,4 +16,4 @@ unfolding letterOf
 returns-2 c = sym (List·getD-eq-default letters 0 (c .if1 .left))
 
 pub letter-of-spec : {M : Type 1} → statement M
-letter-of-spec = tie.close (tie.spec array-read-result returns returns-2)
+letter-of-spec = tie.close (tie.spec (λ c. search needs) returns returns-2)

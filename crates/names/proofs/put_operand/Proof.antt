@@ -1,37 +1,41 @@
 -- `put_operand` meets its contract: the letter, the number and the suffix, one after the other.
 -- Assumes nothing.
 use borrow.Author.Needs.{needs}
-use native.Mathlib.Omega.{arith}
-use Rattle.names.proofs.Puts.{put-then, put-length}
-use Rattle.names.proofs.Pieces.{decimal-most}
+use mathlib.Core.List.{_++_}
+use Rattle.names.specs.Digits.{decimal}
+use Rattle.names.specs.Text.{suffixText}
+use Rattle.names.proofs.Puts.{put-then, room-first, room-rest}
 use Rattle.names.proofs.put_operand.Statement.{statement}
 use Rattle.names.proofs.put_operand.Tie as tie
 
-put-requires : tie.Need-put-requires
-put-requires c κs = search needs
+-- where the function starts, where the letter is written, and where the number is
+abbrev start : tie.After-put → tie.Start
+start c = c .before .before .before
+
+abbrev letter : tie.After-put-decimal → tie.After-put
+letter c = c .before .before .before .before
+
+abbrev number : tie.After-put-suffix → tie.After-put-decimal
+number c = c .before .before .before .before
 
 put-decimal-requires : tie.Need-put-decimal-requires
-put-decimal-requires c κs = search needs
+put-decimal-requires c κs =
+    let at = c .before .before .before in
+    let o = start at .args .operand in
+    room-first _ (decimal (o .number)) (suffixText (o .suffix))
+    (room-rest (decimal (o .number) ++ suffixText (o .suffix)) (at .put .ensures) (start at .pre))
 
 put-suffix-requires : tie.Need-put-suffix-requires
 put-suffix-requires c κs =
-    let put-decimal = c .before .before .before .put-decimal in
-    let put = c .before .before .before .before .before .before .before .put in
-    let at-args = c .before .before .before .before .before .before .before .before .before .before in
-    let args = at-args .args in
-    omega (arith, put-length (put-decimal .ensures), put-length (put .ensures), decimal-most (args .operand .number))
-
-same-length : tie.Need-same-length
-same-length c = search needs
+    let at = c .before .before .before in
+    let o = start (letter at) .args .operand in
+    room-rest (suffixText (o .suffix)) (at .put-decimal .ensures)
+    (room-rest (decimal (o .number) ++ suffixText (o .suffix)) (letter at .put .ensures) (start (letter at) .pre))
 
 returns : tie.Need-returns
 returns c =
-    let put-suffix = c .before .before .put-suffix in
-    let put-decimal = c .before .before .before .before .before .before .put-decimal in
-    let at-put = c .before .before .before .before .before .before .before .before .before .before in
-    let put = at-put .put in
-    put-then (put-then (put .ensures) (put-decimal .ensures)) (put-suffix .ensures)
+    let end = c .before .before in
+    put-then (put-then (letter (number end) .put .ensures) (number end .put-decimal .ensures)) (end .put-suffix .ensures)
 
 pub put-operand-spec : {M : Type 1} → statement M
-put-operand-spec =
-    tie.close (tie.spec put-requires put-decimal-requires put-suffix-requires same-length returns)
+put-operand-spec = tie.close (tie.spec (λ c κs. search needs) put-decimal-requires put-suffix-requires (λ c. search needs) returns)

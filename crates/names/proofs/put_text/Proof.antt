@@ -1,143 +1,137 @@
--- `put_text` meets its contract: the name and two operands, or three, one after the other; 32 bytes hold them.
+-- `put_text` meets its contract: the name, the destination and the further operands, one after the other; the output has room for each.
 -- Assumes nothing.
-use mathlib.Core.Path.{sym, _∙_}
-use native.Mathlib.Omega.{arith}
-use Rattle.names.proofs.Puts.{put-then, put-length}
-use Rattle.names.proofs.Rows.{name-most}
-use Rattle.names.proofs.Pieces.{operand-most, text-two, text-three}
 use borrow.Author.Needs.{needs}
+use Prim.Native.Nat.{_<_}
+use Rattle.machine.specs.Size.{sizes}
+use Rattle.words.specs.Table.{familyOf}
+use Rattle.words.proofs.Decoding.{q-below}
+use Rattle.names.specs.Text.{operandText, further}
+use Rattle.names.proofs.Puts.{put-then, put-length, room-rest}
+use Rattle.names.proofs.Pieces.{text-written, room-one, room-two, room-three, room-four}
 use Rattle.names.proofs.put_text.Statement.{statement}
 use Rattle.names.proofs.put_text.Tie as tie
 
-form-of-requires : tie.Need-form-of-requires
-form-of-requires c κs = search needs
+-- the places: the start, the family, and where the name, the destination, the governing predicate and the source are written
+abbrev start : tie.After-family-of → tie.Start
+start c = c .before .before
 
-put-name-requires : tie.Need-put-name-requires
-put-name-requires c κs = search needs
+abbrev family : tie.After-put-name → tie.After-family-of
+family c = c .before .before
 
-first-operand-requires : tie.Need-first-operand-requires
-first-operand-requires c κs = search needs
+abbrev name : tie.After-destination → tie.After-put-name
+name c = c .before .before .before .before
+
+abbrev first : tie.After-governing-digits → tie.After-put-operand
+first c = c .before .before .before .before
+
+abbrev second : tie.After-source → tie.After-put-further
+second c = c .before .before .before .before
+
+abbrev third : tie.After-second-digits → tie.After-put-further2
+third c = c .before .before .before .before
+
+-- the fields are in range
+in-range : (c : tie.After-put-name) → (start (family c) .args .f .size < sizes) × (start (family c) .args .f .q < 2)
+in-range c = let r = start (family c) .pre .1 in (r .size, q-below (familyOf (start (family c) .args .f .row)) (r .q))
+
+destination-requires : tie.Need-destination-requires
+destination-requires c κs = in-range (c .before .before .before)
 
 put-operand-requires : tie.Need-put-operand-requires
 put-operand-requires c κs =
-    let put-name = c .before .before .before .before .put-name in
-    let args = c .before .before .before .before .before .before .before .before .args in
-    let pre = c .before .before .before .before .before .before .before .before .pre in
-    omega (arith, put-length (put-name .ensures), put-name .ensures .after, name-most (args .f .row) (pre .1 .row))
+    let at = name c in
+    let fam = family at in
+    room-rest (operandText (c .destination .result)) (at .put-name .ensures)
+    (room-one (start fam .args .f) _ (fam .family-of .ensures) _ (c .destination .ensures) (start fam .pre .1) _ (start fam .pre .0))
 
-second-operand-requires : tie.Need-second-operand-requires
-second-operand-requires c κs = search needs
+put-further-requires : tie.Need-put-further-requires
+put-further-requires c κs =
+    let digits = c .before in
+    let dest = first digits .before in
+    let fam = family (name dest) in
+    room-rest (further (digits .governing-digits .result) (c .governing .result))
+    (put-then (name dest .put-name .ensures) (first digits .put-operand .ensures))
+    (room-two (start fam .args .f) _ (fam .family-of .ensures) _ (dest .destination .ensures) (start fam .pre .1) _ (start fam .pre .0)
+    _ _ (digits .governing-digits .ensures .is) (c .governing .ensures))
 
-put-next-requires : tie.Need-put-next-requires
-put-next-requires c κs =
-    let put-operand = c .before .before .before .before .put-operand in
-    let first-operand = c .before .before .before .before .before .first-operand in
-    let put-name = c .before .before .before .before .before .before .before .before .before .put-name in
-    let at-args = c .before .before .before .before .before .before .before .before .before .before .before .before .before in
-    let args = at-args .args in
-    let pre = at-args .pre in
-    omega (
-      arith,
-      put-length (put-operand .ensures),
-      put-operand .ensures .after,
-      operand-most (first-operand .result),
-      put-length (put-name .ensures),
-      put-name .ensures .after,
-      name-most (args .f .row) (pre .1 .row),
-    )
+source-requires : tie.Need-source-requires
+source-requires c κs = in-range (name (first (c .before .before .before .before .before) .before))
 
-is-long-requires : tie.Need-is-long-requires
-is-long-requires c κs = search needs
+put-further-requires-2 : tie.Need-put-further-requires-2
+put-further-requires-2 c κs =
+    let gov = second c .before in
+    let digits = gov .before in
+    let dest = first digits .before in
+    let fam = family (name dest) in
+    room-rest (further 5 (c .source .result))
+    (put-then (put-then (name dest .put-name .ensures) (first digits .put-operand .ensures)) (second c .put-further .ensures))
+    (room-three (start fam .args .f) _ (fam .family-of .ensures) _ (dest .destination .ensures) (start fam .pre .1) _ (start fam .pre .0)
+    _ _ _ (digits .governing-digits .ensures .is) (gov .governing .ensures) (c .source .ensures))
+
+source-requires-2 : tie.Need-source-requires-2
+source-requires-2 c κs = in-range (name (first (second (third c .before) .before .before) .before))
+
+put-further-requires-3 : tie.Need-put-further-requires-3
+put-further-requires-3 c κs =
+    let last = c .before in
+    let src = third last .before in
+    let gov = second src .before in
+    let digits = gov .before in
+    let dest = first digits .before in
+    let fam = family (name dest) in
+    room-rest (further (last .second-digits .result) (c .source2 .result))
+    (put-then
+    (put-then (put-then (name dest .put-name .ensures) (first digits .put-operand .ensures)) (second src .put-further .ensures))
+    (third last .put-further2 .ensures))
+    (room-four (start fam .args .f) _ (fam .family-of .ensures) _ (dest .destination .ensures) (start fam .pre .1) _ (start fam .pre .0)
+    _ _ _ _ _ (digits .governing-digits .ensures .is) (gov .governing .ensures) (src .source .ensures) (last .second-digits .ensures .is) (c .source2 .ensures))
 
 same-length : tie.Need-same-length
-same-length c = search needs
+same-length c =
+    let end = c .before .before in
+    let last = end .before .before in
+    let src = third last .before in
+    let digits = second src .before .before in
+    let dest = first digits .before in
+    put-length
+    (put-then
+    (put-then
+    (put-then (put-then (name dest .put-name .ensures) (first digits .put-operand .ensures)) (second src .put-further .ensures))
+    (third last .put-further2 .ensures))
+    (end .put-further3 .ensures))
 
 returns : tie.Need-returns
 returns c =
-    let is-long = c .before .is-long in
-    let put-next = c .before .before .before .before .put-next in
-    let second-operand = c .before .before .before .before .before .second-operand in
-    let put-operand = c .before .before .before .before .before .before .before .before .before .put-operand in
-    let at-first-operand = c .before .before .before .before .before .before .before .before .before .before in
-    let first-operand = at-first-operand .first-operand in
-    let at-put-name = at-first-operand .before .before .before .before in
-    let put-name = at-put-name .put-name in
-    let at-form-of = at-put-name .before .before in
-    let form-of = at-form-of .form-of in
-    let at-args = at-form-of .before .before in
-    let args = at-args .args in
-    rw (text-two (args .f) _ (form-of .ensures) _ _ (sym (is-long .ensures) ∙ c .if1 .taken) (first-operand .ensures) (second-operand .ensures))
-    (put-then (put-then (put-name .ensures) (put-operand .ensures)) (put-next .ensures))
-
-third-operand-requires : tie.Need-third-operand-requires
-third-operand-requires c κs = search needs
-
-put-next-requires-2 : tie.Need-put-next-requires-2
-put-next-requires-2 c κs =
-    let put-next = c .before .before .before .before .before .before .put-next in
-    let second-operand = c .before .before .before .before .before .before .before .second-operand in
-    let at-put-operand = c .before .before .before .before .before .before .before .before .before .before .before in
-    let put-operand = at-put-operand .put-operand in
-    let at-first-operand = at-put-operand .before in
-    let first-operand = at-first-operand .first-operand in
-    let at-put-name = at-first-operand .before .before .before .before in
-    let put-name = at-put-name .put-name in
-    let at-args = at-put-name .before .before .before .before in
-    let args = at-args .args in
-    let pre = at-args .pre in
-    omega (
-      arith,
-      put-length (put-next .ensures),
-      put-next .ensures .after,
-      operand-most (second-operand .result),
-      put-length (put-operand .ensures),
-      put-operand .ensures .after,
-      operand-most (first-operand .result),
-      put-length (put-name .ensures),
-      put-name .ensures .after,
-      name-most (args .f .row) (pre .1 .row),
-    )
-
-same-length-2 : tie.Need-same-length-2
-same-length-2 c = search needs
-
-returns-2 : tie.Need-returns-2
-returns-2 c =
-    let put-next2 = c .before .before .put-next2 in
-    let third-operand = c .before .before .before .third-operand in
-    let if1 = c .before .before .before .before .before .if1 in
-    let is-long = c .before .before .before .before .before .before .is-long in
-    let put-next = c .before .before .before .before .before .before .before .before .before .put-next in
-    let at-second-operand = c .before .before .before .before .before .before .before .before .before .before in
-    let second-operand = at-second-operand .second-operand in
-    let at-put-operand = at-second-operand .before .before .before .before in
-    let put-operand = at-put-operand .put-operand in
-    let at-first-operand = at-put-operand .before in
-    let first-operand = at-first-operand .first-operand in
-    let at-put-name = at-first-operand .before .before .before .before in
-    let put-name = at-put-name .put-name in
-    let at-form-of = at-put-name .before .before in
-    let form-of = at-form-of .form-of in
-    let at-args = at-form-of .before .before in
-    let args = at-args .args in
-    rw (text-three (args .f) _ (form-of .ensures) _ _ _
-    (sym (is-long .ensures) ∙ if1 .left) (first-operand .ensures) (second-operand .ensures) (third-operand .ensures))
-    (put-then (put-then (put-then (put-name .ensures) (put-operand .ensures)) (put-next .ensures)) (put-next2 .ensures))
+    let end = c .before .before in
+    let last = end .before .before in
+    let src = third last .before in
+    let gov = second src .before in
+    let digits = gov .before in
+    let dest = first digits .before in
+    let fam = family (name dest) in
+    rw (text-written (start fam .args .f) _ (fam .family-of .ensures) _ (dest .destination .ensures)
+    _ _ _ _ _ (digits .governing-digits .ensures .is) (gov .governing .ensures) (src .source .ensures) (last .second-digits .ensures .is) (end .before .source2 .ensures))
+    (put-then
+    (put-then
+    (put-then (put-then (name dest .put-name .ensures) (first digits .put-operand .ensures)) (second src .put-further .ensures))
+    (third last .put-further2 .ensures))
+    (end .put-further3 .ensures))
 
 pub put-text-spec : {M : Type 1} → statement M
 put-text-spec =
     tie.close
     (tie.spec
-    form-of-requires
-    put-name-requires
-    first-operand-requires
+    (λ c κs. search needs)
+    (λ c κs. search needs)
+    destination-requires
     put-operand-requires
-    second-operand-requires
-    put-next-requires
-    is-long-requires
+    (λ c κs. search needs)
+    (λ c κs. search needs)
+    put-further-requires
+    source-requires
+    put-further-requires-2
+    (λ c κs. search needs)
+    source-requires-2
+    put-further-requires-3
     same-length
-    returns
-    third-operand-requires
-    put-next-requires-2
-    same-length-2
-    returns-2)
+    returns)

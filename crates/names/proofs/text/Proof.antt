@@ -1,7 +1,7 @@
 -- `text` meets its contract: each return is a case of naming.
 -- Assumes nothing.
 use native.Mathlib.Omega.{arith}
-use Rattle.names.proofs.Longest.{text-length}
+use Rattle.names.proofs.Pieces.{text-length}
 use mathlib.Core.Path.{_≡_, sym, _∙_}
 use Rattle.words.specs.Decode.{decoded}
 use Rattle.words.specs.declared.Decoded.the-variants.{Word}
@@ -11,80 +11,53 @@ use borrow.Author.Needs.{needs}
 use Rattle.names.proofs.text.Statement.{statement}
 use Rattle.names.proofs.text.Tie as tie
 
-refuse-requires : tie.Need-refuse-requires
-refuse-requires c κs = search needs
+-- the places: where the output is long enough, where the word is decoded, and where it is accepted
+abbrev long : tie.After-decode → tie.Else1
+long c = c .before
+
+abbrev decode : tie.After-fields → tie.After-decode
+decode c = c .before .before
+
+accepted : (c : tie.After-fields) → decoded (long (decode c) .before .before .args .word) ≡ Word (c .fields .given .0 .0)
+accepted c = sym (decode c .decode .ensures) ∙ c .fields .given .1
 
 returns : tie.Need-returns
 returns c = named-out _ _ _ (c .before .if1 .taken) (c .refuse .ensures)
 
-decode-requires : tie.Need-decode-requires
-decode-requires c κs = search needs
-
-enum-told : tie.Need-enum-told
-enum-told c = search needs
-
-refuse-requires-2 : tie.Need-refuse-requires-2
-refuse-requires-2 c κs = search needs
-
-enum-told-2 : tie.Need-enum-told-2
-enum-told-2 c = search needs
-
-refuse-requires-3 : tie.Need-refuse-requires-3
-refuse-requires-3 c κs = search needs
-
-enum-known-fields : tie.Need-enum-known-fields
-enum-known-fields c = search needs
-
 put-text-requires : tie.Need-put-text-requires
-put-text-requires c κs =
-    let fields = c .before .before .fields in
-    let decode = c .before .before .before .before .decode in
-    let if1 = c .before .before .before .before .before .if1 in
-    (if1 .left, decoded-in-range _ _ (sym (decode .ensures) ∙ fields .given .1))
+put-text-requires c κs = let at = c .before .before in (long (decode at) .if1 .left, decoded-in-range _ _ (accepted at))
 
 returns-2 : tie.Need-returns-2
 returns-2 c =
-    let enum-told = c .before .enum-told in
-    let decode = c .before .before .before .decode in
-    let if1 = c .before .before .before .before .if1 in
-    named-unknown _ _ _ (if1 .left) (sym (decode .ensures) ∙ enum-told .given .1) (c .refuse2 .ensures)
+    let at = c .before .before .before in
+    named-unknown _ _ _ (long at .if1 .left) (sym (at .decode .ensures) ∙ c .before .enum-told .given .1) (c .refuse2 .ensures)
 
 returns-3 : tie.Need-returns-3
 returns-3 c =
-    let enum-told2 = c .before .enum-told2 in
-    let decode = c .before .before .before .decode in
-    let if1 = c .before .before .before .before .if1 in
-    named-undefined _ _ _ (if1 .left) (sym (decode .ensures) ∙ enum-told2 .given .1) (c .refuse3 .ensures)
-
-same-length : tie.Need-same-length
-same-length c = search needs
+    let at = c .before .before .before in
+    named-undefined _ _ _ (long at .if1 .left) (sym (at .decode .ensures) ∙ c .before .enum-told2 .given .1) (c .refuse3 .ensures)
 
 returns-4 : tie.Need-returns-4
 returns-4 c =
-    let put-text = c .before .before .put-text in
-    let fields = c .before .before .before .before .before .fields in
-    let decode = c .before .before .before .before .before .before .before .decode in
-    let if1 = c .before .before .before .before .before .before .before .before .if1 in
-    let at-args = c .before .before .before .before .before .before .before .before .before .before in
-    let args = at-args .args in
-    let is : decoded (args .word) ≡ Word (fields .given .0 .0) = sym (decode .ensures) ∙ fields .given .1 in
-    let fits = text-length (fields .given .0 .0) (decoded-in-range _ _ is .row) in
-    named-done _ _ _ _ _ (if1 .left) is (omega (arith, if1 .left)) (put-text .ensures)
+    let at = c .before .before .before .before .before in
+    let room = long (decode at) .if1 .left in
+    let fits = text-length _ (decoded-in-range _ _ (accepted at)) in
+    named-done _ _ _ _ _ room (accepted at) (omega (arith, room, fits)) (c .before .before .put-text .ensures)
 
 pub text-spec : {M : Type 1} → statement M
 text-spec =
     tie.close
     (tie.spec
-    refuse-requires
+    (λ c κs. search needs)
     returns
-    decode-requires
-    enum-told
-    refuse-requires-2
-    enum-told-2
-    refuse-requires-3
-    enum-known-fields
+    (λ c κs. search needs)
+    (λ c. search needs)
+    (λ c κs. search needs)
+    (λ c. search needs)
+    (λ c κs. search needs)
+    (λ c. search needs)
     put-text-requires
     returns-2
     returns-3
-    same-length
+    (λ c. search needs)
     returns-4)

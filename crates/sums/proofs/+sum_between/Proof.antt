@@ -3,7 +3,7 @@
 -- Assumes nothing.
 use borrow.Author.Needs.{needs}
 use Prim.Native.Nat.{ℕ, _+_, _-_, _/_, _%_, _^_, _<_}
-use mathlib.Core.Path.{_≡_, sym, _∙_, ap₂}
+use mathlib.Core.Path.{sym, _∙_, ap₂}
 use native.Mathlib.Nat.{mul-le-mul-right}
 use native.Mathlib.Omega.{arith}
 use Rattle.sums.proofs.Ranges.{sum-split}
@@ -59,13 +59,13 @@ sum-between-sum-between-requires t c κs =
     let a = c .before .before .before .args in
     let r = c .before .before .before .pre .1 in (
       omega arith,
-      (r .0, omega arith, omega (arith, r .2, mul-le-mul-right {m = a .a + (a .b - a .a) / 2} {n = a .b} (a .w) (omega arith))),
+      record { governs = r .governs; ordered = omega arith; inside = omega (arith, r .inside, mul-le-mul-right {m = a .a + (a .b - a .a) / 2} {n = a .b} (a .w) (omega arith)) },
     )
 
 sum-between-sum-between-requires-2 : (t : ℕ) → sum-between-lts.Need-sum-between-requires-2 (callees t) (sum-between-at t) sum-between.Post
 sum-between-sum-between-requires-2 t c κs =
     let r = c .before .before .before .before .pre .1 in
-    (omega arith, (r .0, omega arith, r .2))
+    (omega arith, record { governs = r .governs; ordered = omega arith; inside = r .inside })
 
 sum-between-wrapping-add-u64-requires : (t : ℕ) → sum-between-lts.Need-wrapping-add-u64-requires (callees t) (sum-between-at t) sum-between.Post
 sum-between-wrapping-add-u64-requires t c κs = search needs

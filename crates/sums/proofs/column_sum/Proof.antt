@@ -22,24 +22,6 @@ abbrev μ-loop : tie.MeasureT-loop
 loop-holds : tie.Need-loop-holds Inv-loop μ-loop
 loop-holds c = (omega arith, refl)
 
-mul-row-lane : tie.Need-mul-row-lane Inv-loop μ-loop
-mul-row-lane c = omega arith
-
-array-copy-out-row-lane : tie.Need-array-copy-out-row-lane Inv-loop μ-loop
-array-copy-out-row-lane c = omega arith
-
-row-lane-requires : tie.Need-row-lane-requires Inv-loop μ-loop
-row-lane-requires c κs = search needs
-
-wrapping-add-u64-requires : tie.Need-wrapping-add-u64-requires Inv-loop μ-loop
-wrapping-add-u64-requires c κs = search needs
-
-add-s : tie.Need-add-s Inv-loop μ-loop
-add-s c = omega arith
-
-loop-less : tie.Need-loop-less Inv-loop μ-loop
-loop-less c = omega arith
-
 loop-again : tie.Need-loop-again Inv-loop μ-loop
 loop-again c =
     let a = c .before .before .before .before .before .args in
@@ -59,5 +41,4 @@ returns c =
 
 pub column-sum-spec : {M : Type 1} → statement M
 column-sum-spec =
-    tie.close
-    (tie.spec Inv-loop μ-loop loop-holds mul-row-lane array-copy-out-row-lane row-lane-requires wrapping-add-u64-requires add-s loop-less loop-again returns)
+    tie.close (tie.spec Inv-loop μ-loop loop-holds (λ c. omega arith) (λ c. omega arith) (λ c κs. search needs) (λ c κs. search needs) (λ c. omega arith) (λ c. omega arith) loop-again returns)

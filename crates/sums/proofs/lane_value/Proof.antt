@@ -6,29 +6,24 @@ use Prim.Native.Nat.{ℕ}
 use mathlib.Core.Path.{sym, _∙_, ap}
 use native.Mathlib.Omega.{arith}
 use denote.Ref.{now}
-use Rattle.lanes.specs.Lane.{bitsOf}
+use Rattle.parts.specs.Number.{bitsOf}
 use Rattle.lanes.specs.Integer.{residue, integer}
 use Rattle.lanes.proofs.Bytes.{lane-lt}
 use Rattle.sums.proofs.lane_value.Statement.{statement}
 use Rattle.sums.proofs.lane_value.Tie as tie
 
-is-active-requires : tie.Need-is-active-requires
-is-active-requires c κs = search needs
-
 returns : tie.Need-returns
 returns c = rw (sym (c .before .is-active .ensures) ∙ not-true _ (c .if1 .taken))
 
-lane-requires : tie.Need-lane-requires
-lane-requires c κs = search needs
-
 extend-requires : tie.Need-extend-requires
 extend-requires c κs =
-    let a = c .before .before .before .before .before .args in (
-      search needs,
-      search needs,
-      rw (c .lane .ensures)
-          (lane-lt (a .w) (a .e) (now (a .register)) (λ i. omega (arith, c .before .before .before .before .shared-slice-known .given i))),
-    )
+    let a = c .before .before .before .before .before .args in
+    record {
+      least = search needs;
+      most = search needs;
+      digits = rw (c .lane .ensures)
+          (lane-lt (a .w) (a .e) (now (a .register)) (λ i. omega (arith, c .before .before .before .before .shared-slice-known .given i)));
+    }
 
 returns-2 : tie.Need-returns-2
 returns-2 c =
@@ -38,4 +33,4 @@ returns-2 c =
 
 pub lane-value-spec : {M : Type 1} → statement M
 lane-value-spec =
-    tie.close (tie.spec is-active-requires returns lane-requires extend-requires returns-2)
+    tie.close (tie.spec (λ c κs. search needs) returns (λ c κs. search needs) extend-requires returns-2)

@@ -1,53 +1,44 @@
 -- `panel` meets its contract: a refused panel is zeros; else the parts are the registers of the files, and their panel is the answer.
 -- Assumes nothing.
 use borrow.Author.Needs.{needs}
-use denote.Ref.{now}
-use mathlib.Core.Path.{_≡_, sym, _∙_}
-use Rattle.machine.specs.Refusal.{DONE}
+use mathlib.Core.Path.{sym, _∙_}
+use Rattle.machine.proofs.Tests.{kept, left}
 use Rattle.sums.specs.Panel.{noPanel}
-use Rattle.sums.specs.Calls.{panelRefused}
-use Rattle.sums.proofs.Accepted.{Accepted, panel-accepted, panel-ready, refused-panel}
+use Rattle.sums.proofs.Accepted.{Accepted, panel-accepted, source-in, predicate-in, governs, whole-segments, width-legal}
 use Rattle.sums.proofs.panel.Statement.{statement}
 use Rattle.sums.proofs.panel.Tie as tie
 
 -- past the test nothing is refused
-done : (c : tie.Else1)
-    → let a = c .before .before .before .before .args in
-    panelRefused (a .k) (now (a .z)) (now (a .p)) (a .source) (a .governing) (a .size) ≡ DONE
-done c = sym (c .before .panel-refusal .ensures) ∙ c .if1 .left
-
 accepted : (c : tie.Else1)
     → let a = c .before .before .before .before .args in
-    Accepted (a .k) (now (a .z)) (now (a .p)) (a .source) (a .governing) (a .size)
-accepted c =
-    let a = c .before .before .before .before .args in
-    panel-accepted (a .k) (now (a .z)) (now (a .p)) (a .source) (a .governing) (a .size) (done c)
-
-panel-refusal-requires : tie.Need-panel-refusal-requires
-panel-refusal-requires c κs = search needs
+    Accepted (a .k) (a .z .now) (a .p .now) (a .source) (a .governing) (a .size)
+accepted c = panel-accepted _ _ _ _ _ _ (sym (c .before .panel-refusal .ensures) ∙ c .if1 .left)
 
 returns : tie.Need-returns
 unfolding noPanel
-returns c = sym (refused-panel _ (λ e. c .if1 .taken (c .before .panel-refusal .ensures ∙ e)) _)
+returns c = kept _ _ _ _ (c .before .panel-refusal .ensures) (c .if1 .taken)
 
-vector-part-requires : tie.Need-vector-part-requires
-vector-part-requires c κs = (accepted c .most, accepted c .source-is, accepted c .vector-file)
+register-requires : tie.Need-register-requires
+register-requires c κs = source-in _ _ _ _ _ _ (accepted c)
 
-predicate-part-requires : tie.Need-predicate-part-requires
-predicate-part-requires c κs = let h = accepted (c .before) in (h .most, h .predicate-is, h .predicate-file)
+register-requires-2 : tie.Need-register-requires-2
+register-requires-2 c κs = predicate-in _ _ _ _ _ _ (accepted (c .before))
 
 width-of-requires : tie.Need-width-of-requires
 width-of-requires c κs = accepted (c .before .before) .size-is
 
 panel-of-requires : tie.Need-panel-of-requires
 panel-of-requires c κs =
-    rw (c .width-of .ensures, c .before .predicate-part .ensures, c .before .before .vector-part .ensures)
-    (panel-ready _ _ _ _ _ _ (accepted (c .before .before .before)))
+    let h = accepted (c .before .before .before) in
+    rw (c .width-of .ensures, c .before .register2 .ensures, c .before .before .register .ensures)
+    (record { governs = governs _ _ _ _ _ _ h; fills = width-legal _ (h .size-is) .2; segments = whole-segments _ _ _ _ _ _ h })
 
 returns-2 : tie.Need-returns-2
 returns-2 c =
+    let t = c .before .before .before .before in
     c .panel-of .ensures
-    ∙ rw (c .before .width-of .ensures, c .before .before .predicate-part .ensures, c .before .before .before .vector-part .ensures, done (c .before .before .before .before))
+    ∙ rw (c .before .width-of .ensures, c .before .before .register2 .ensures, c .before .before .before .register .ensures)
+    (left _ _ _ (sym (t .before .panel-refusal .ensures) ∙ t .if1 .left))
 
 pub panel-spec : {M : Type 1} → statement M
-panel-spec = tie.close (tie.spec panel-refusal-requires returns vector-part-requires predicate-part-requires width-of-requires panel-of-requires returns-2)
+panel-spec = tie.close (tie.spec (λ c κs. search needs) returns register-requires register-requires-2 width-of-requires panel-of-requires returns-2)

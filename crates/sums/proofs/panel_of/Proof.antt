@@ -20,19 +20,7 @@ loop-holds c =
 panel-row-requires : tie.Need-panel-row-requires Inv-loop μ-loop
 panel-row-requires c κs =
     let r = c .before .before .before .before .pre in
-    (r .0, r .1, omega arith)
-
-mul-rows : tie.Need-mul-rows Inv-loop μ-loop
-mul-rows c = omega arith
-
-array-set-from-rows : tie.Need-array-set-from-rows Inv-loop μ-loop
-array-set-from-rows c = omega arith
-
-add-s : tie.Need-add-s Inv-loop μ-loop
-add-s c = omega arith
-
-loop-less : tie.Need-loop-less Inv-loop μ-loop
-loop-less c = omega arith
+    record { governs = r .governs; fills = r .fills; inside = omega arith }
 
 loop-again : tie.Need-loop-again Inv-loop μ-loop
 loop-again c =
@@ -50,5 +38,4 @@ returns c =
 
 pub panel-of-spec : {M : Type 1} → statement M
 panel-of-spec =
-    tie.close
-    (tie.spec Inv-loop μ-loop loop-holds panel-row-requires mul-rows array-set-from-rows add-s loop-less loop-again returns)
+    tie.close (tie.spec Inv-loop μ-loop loop-holds panel-row-requires (λ c. omega arith) (λ c. omega arith) (λ c. omega arith) (λ c. omega arith) loop-again returns)

@@ -2,31 +2,28 @@
 -- Assumes nothing.
 use borrow.Author.Needs.{needs}
 use borrow.Author.Tests.{lt-ltb, le-ltb}
-use denote.Ref.{now}
 use mathlib.Core.Path.{_≡_, sym, _∙_}
-use mathlib.Core.Bool.{cond}
-use Rattle.machine.specs.Refusal.{DONE, RANGE}
+use mathlib.Core.Bool.{not}
+use mathlib.Core.List.{[], _∷_}
+use lib.ListN.{length}
+use Rattle.machine.specs.Refusal.{refused, filesTests, rangeTest}
+use Rattle.machine.proofs.Tests.{refused-early, refused-later}
 use Rattle.sums.specs.Calls.{inRange, panelRefused}
-use Rattle.sums.proofs.Accepted.{panel-earlier, panel-last}
 use Rattle.sums.proofs.panel_refusal.Statement.{statement}
 use Rattle.sums.proofs.panel_refusal.Tie as tie
 
 -- past the first test the numbers decide
 numbers : (c : tie.Else1)
     → let a = c .before .before .before .before .args in
-    panelRefused (a .k) (now (a .z)) (now (a .p)) (a .source) (a .governing) (a .size) ≡ cond (inRange (a .source) (a .governing) (a .size)) DONE RANGE
+    panelRefused (a .k) (a .z .now) (a .p .now) (a .source) (a .governing) (a .size) ≡ refused (rangeTest (not (inRange (a .source) (a .governing) (a .size))) ∷ [])
 numbers c =
     let a = c .before .before .before .before .args in
-    panel-last (a .k) (now (a .z)) (now (a .p)) (a .source) (a .governing) (a .size) (sym (c .before .check-files .ensures) ∙ c .if1 .left)
-
-check-files-requires : tie.Need-check-files-requires
-check-files-requires c κs = search needs
+    refused-later (filesTests (a .k) (length (a .z .now)) (length (a .p .now))) tt _ _ (c .before .check-files .ensures) (c .if1 .left)
 
 returns : tie.Need-returns
 returns c =
     let a = c .before .before .before .before .args in
-    let h = c .before .check-files .ensures in
-    h ∙ sym (panel-earlier (a .k) (now (a .z)) (now (a .p)) (a .source) (a .governing) (a .size) (λ e. c .if1 .taken (h ∙ e)))
+    refused-early (filesTests (a .k) (length (a .z .now)) (length (a .p .now))) tt _ _ (c .before .check-files .ensures) (c .if1 .taken)
 
 returns-2 : tie.Need-returns-2
 returns-2 c = sym (numbers (c .before) ∙ rw (le-ltb _ _ (c .if2 .taken)))
@@ -47,4 +44,4 @@ returns-5 c =
     ∙ rw (lt-ltb _ _ (c .before .before .if2 .left), lt-ltb _ _ (c .before .if3 .left), lt-ltb _ _ (c .if4 .left)))
 
 pub panel-refusal-spec : {M : Type 1} → statement M
-panel-refusal-spec = tie.close (tie.spec check-files-requires returns returns-2 returns-3 returns-4 returns-5)
+panel-refusal-spec = tie.close (tie.spec (λ c κs. search needs) returns returns-2 returns-3 returns-4 returns-5)

@@ -1,52 +1,51 @@
 -- `subtotal` meets its contract: a refusal comes with 0; else the parts are the registers of the files, and the sum of their lanes is the answer.
 -- Assumes nothing.
+use Prim.Native.Nat.{_/_, _≤_}
 use borrow.Author.Needs.{needs}
-use denote.Ref.{now}
 use mathlib.Core.Path.{_≡_, sym, _∙_}
+use Rattle.machine.specs.Size.{vectorBytes}
 use Rattle.machine.specs.Refusal.{DONE}
+use Rattle.machine.proofs.Tests.{refused-answer, done-answer}
+use Rattle.lanes.specs.Lane.{widthOf}
 use Rattle.sums.specs.Calls.{subtotalRefused}
-use Rattle.sums.proofs.Accepted.{Accepted, subtotal-accepted, subtotal-ready, refused-answer, done-answer}
+use Rattle.sums.proofs.Accepted.{Accepted, subtotal-accepted, source-in, predicate-in, governs, lanes-within}
 use Rattle.sums.proofs.subtotal.Statement.{statement}
 use Rattle.sums.proofs.subtotal.Tie as tie
 
 -- past the test nothing is refused
 done : (c : tie.Else1)
     → let a = c .before .before .before .before .args in
-    subtotalRefused (a .k) (now (a .z)) (now (a .p)) (a .source) (a .governing) (a .size) (a .a) (a .b) ≡ DONE
+    subtotalRefused (a .k) (a .z .now) (a .p .now) (a .source) (a .governing) (a .size) (a .a) (a .b) ≡ DONE
 done c = sym (c .before .subtotal-refusal .ensures) ∙ c .if1 .left
 
 accepted : (c : tie.Else1)
     → let a = c .before .before .before .before .args in
-    Accepted (a .k) (now (a .z)) (now (a .p)) (a .source) (a .governing) (a .size)
-accepted c =
-    let a = c .before .before .before .before .args in
-    subtotal-accepted (a .k) (now (a .z)) (now (a .p)) (a .source) (a .governing) (a .size) (a .a) (a .b) (done c)
-
-subtotal-refusal-requires : tie.Need-subtotal-refusal-requires
-subtotal-refusal-requires c κs = search needs
+    Accepted (a .k) (a .z .now) (a .p .now) (a .source) (a .governing) (a .size) × (a .a ≤ a .b) × (a .b ≤ vectorBytes (a .k) / widthOf (a .size))
+accepted c = subtotal-accepted _ _ _ _ _ _ _ _ (done c)
 
 returns : tie.Need-returns
 returns c = refused-answer _ _ _ (c .before .subtotal-refusal .ensures) (c .if1 .taken)
 
-vector-part-requires : tie.Need-vector-part-requires
-vector-part-requires c κs = (accepted c .most, accepted c .source-is, accepted c .vector-file)
+register-requires : tie.Need-register-requires
+register-requires c κs = source-in _ _ _ _ _ _ (accepted c .0)
 
-predicate-part-requires : tie.Need-predicate-part-requires
-predicate-part-requires c κs = let h = accepted (c .before) in (h .most, h .predicate-is, h .predicate-file)
+register-requires-2 : tie.Need-register-requires-2
+register-requires-2 c κs = predicate-in _ _ _ _ _ _ (accepted (c .before) .0)
 
 width-of-requires : tie.Need-width-of-requires
-width-of-requires c κs = accepted (c .before .before) .size-is
+width-of-requires c κs = accepted (c .before .before) .0 .size-is
 
 sum-between-requires : tie.Need-sum-between-requires
 sum-between-requires c κs =
-    rw (c .width-of .ensures, c .before .predicate-part .ensures, c .before .before .vector-part .ensures)
-    (subtotal-ready _ _ _ _ _ _ (accepted (c .before .before .before)) _ _ (done (c .before .before .before)))
+    let h = accepted (c .before .before .before) in
+    rw (c .width-of .ensures, c .before .register2 .ensures, c .before .before .register .ensures)
+    (record { governs = governs _ _ _ _ _ _ (h .0); ordered = h .1; inside = lanes-within _ _ _ _ _ _ (h .0) _ (h .2) })
 
 returns-2 : tie.Need-returns-2
 returns-2 c =
-    done-answer _ _ _ _ (c .before .before .before .before .if1 .left) (done (c .before .before .before .before))
+    done-answer _ _ _ _ (c .before .before .before .before .before .subtotal-refusal .ensures) (done (c .before .before .before .before))
     (c .sum-between .ensures
-    ∙ rw (c .before .width-of .ensures, c .before .before .predicate-part .ensures, c .before .before .before .vector-part .ensures))
+    ∙ rw (c .before .width-of .ensures, c .before .before .register2 .ensures, c .before .before .before .register .ensures))
 
 pub subtotal-spec : {M : Type 1} → statement M
-subtotal-spec = tie.close (tie.spec subtotal-refusal-requires returns vector-part-requires predicate-part-requires width-of-requires sum-between-requires returns-2)
+subtotal-spec = tie.close (tie.spec (λ c κs. search needs) returns register-requires register-requires-2 width-of-requires sum-between-requires returns-2)

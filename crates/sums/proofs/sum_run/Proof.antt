@@ -1,10 +1,9 @@
 -- `sum_run` meets its contract: the sum so far is that of the lanes passed, and each turn adds one lane more.
 -- Assumes nothing.
 use borrow.Author.Needs.{needs}
-use Prim.Native.Nat.{_+_, _-_, _%_, _^_, _≤_}
+use Prim.Native.Nat.{_+_, _-_, _%_, _^_, _≤_, ℕ}
 use mathlib.Core.Path.{_≡_, sym, _∙_, ap₂}
 use native.Mathlib.Omega.{arith}
-use Prim.Native.Nat.{ℕ}
 use Rattle.machine.proofs.Places.{place-within}
 use Rattle.sums.specs.Sums.{laneSum}
 use Rattle.sums.proofs.Ranges.{sum-none, sum-next}
@@ -26,16 +25,7 @@ lane-value-requires : tie.Need-lane-value-requires Inv-loop μ-loop
 lane-value-requires c κs =
     let a = c .before .before .before .before .args in
     let r = c .before .before .before .before .pre in
-    (r .0, omega (arith, r .2, place-within (c .before .loop .e) (a .b) (a .w) (c .loop-test .taken)))
-
-wrapping-add-u64-requires : tie.Need-wrapping-add-u64-requires Inv-loop μ-loop
-wrapping-add-u64-requires c κs = search needs
-
-add-e : tie.Need-add-e Inv-loop μ-loop
-add-e c = omega arith
-
-loop-less : tie.Need-loop-less Inv-loop μ-loop
-loop-less c = omega arith
+    record { governs = r .governs; inside = omega (arith, r .inside, place-within (c .before .loop .e) (a .b) (a .w) (c .loop-test .taken)) }
 
 loop-again : tie.Need-loop-again Inv-loop μ-loop
 loop-again c =
@@ -56,5 +46,4 @@ returns c =
 
 pub sum-run-spec : {M : Type 1} → statement M
 sum-run-spec =
-    tie.close
-    (tie.spec Inv-loop μ-loop loop-holds lane-value-requires wrapping-add-u64-requires add-e loop-less loop-again returns)
+    tie.close (tie.spec Inv-loop μ-loop loop-holds lane-value-requires (λ c κs. search needs) (λ c. omega arith) (λ c. omega arith) loop-again returns)

@@ -2,62 +2,55 @@
 -- Assumes nothing.
 use borrow.Author.Needs.{needs}
 use mathlib.Core.Path.{_≡_, sym, _∙_, ap}
-use Prim.Native.Nat.{ℕ}
+use Prim.Native.Nat.{ℕ, _^_, _<_}
 use Rattle.words.specs.Decode.{decoded, judged, fieldsAt}
-use Rattle.words.specs.Table.{formOf, allows}
+use Rattle.words.specs.Table.{formOf, familyOf, allows}
+use Rattle.words.specs.Field.{sizePlace, qPlace, sizeDigits, qDigits}
 use Rattle.words.specs.declared.Form.{Form}
 use Rattle.words.specs.declared.Fields.{Fields}
+use Rattle.words.proofs.Digits.{field-below}
 use Rattle.words.proofs.Decoding.{decoded-unknown, decoded-judged, q-below}
 use Rattle.words.proofs.decode.Statement.{statement}
 use Rattle.words.proofs.decode.Tie as tie
 
-row-of-requires : tie.Need-row-of-requires
-row-of-requires c κs = search needs
-
 returns : tie.Need-returns
 returns c = sym (decoded-unknown _ (rw (c .before .row-of .ensures) at (c .if1 .taken)))
 
-fields-at-requires : tie.Need-fields-at-requires
-fields-at-requires c κs = search needs
+-- where the row is known, and where its fields are read
+abbrev row-known : tie.After-fields-at → tie.After-row-of
+row-known c = c .before .before
 
-form-of-requires : tie.Need-form-of-requires
-form-of-requires c κs = search needs
+abbrev fields-known : tie.After-allows-size → tie.After-fields-at
+fields-known c = c .before .before
+
+-- the size is of its digits, and so is Q
+in-digits : (f : Fields) (i word : ℕ) → f ≡ fieldsAt i word → (f .size < 2 ^ sizeDigits) × (f .q < 2)
+in-digits f i word e = rw e (field-below sizePlace sizeDigits word, q-below (familyOf i) (field-below qPlace (qDigits (familyOf i)) word))
 
 allows-size-requires : tie.Need-allows-size-requires
-allows-size-requires c κs =
-    rw (c .before .fields-at .ensures) (q-below (c .before .before .before .row-of .result) (c .before .before .before .before .args .word))
+allows-size-requires c κs = in-digits _ _ _ (c .before .fields-at .ensures)
 
 -- past the first test the word is what its fields are judged to be
-known : (c : tie.After-fields-at) → decoded (c .before .before .before .args .word) ≡ judged (c .fields-at .result)
+known : (c : tie.After-fields-at) → decoded (row-known c .before .args .word) ≡ judged (c .fields-at .result)
 known c =
-    decoded-judged _ (rw (c .before .before .row-of .ensures) at (c .before .if1 .left))
+    decoded-judged _ (rw (row-known c .row-of .ensures) at (c .before .if1 .left))
     ∙ ap judged
-    (ap (λ (i : ℕ). fieldsAt i (c .before .before .before .args .word)) (sym (c .before .before .row-of .ensures))
-    ∙ sym (c .fields-at .ensures))
+    (ap (λ (i : ℕ). fieldsAt i (row-known c .before .args .word)) (sym (row-known c .row-of .ensures)) ∙ sym (c .fields-at .ensures))
 
 -- and the test that was made is the one of `judged`
 tested : (c : tie.After-allows-size)
-    → allows (formOf (c .before .before .fields-at .result .row)) (c .before .before .fields-at .result .q) (c .before .before .fields-at .result .size)
+    → allows (formOf (fields-known c .fields-at .result .row)) (fields-known c .fields-at .result .q) (fields-known c .fields-at .result .size)
     ≡ c .allows-size .result
 tested c =
-    ap (λ (form : Form). allows form (c .before .before .fields-at .result .q) (c .before .before .fields-at .result .size))
-    (ap (λ (f : Fields). formOf (f .row)) (c .before .before .fields-at .ensures) ∙ sym (c .before .form-of .ensures))
+    ap (λ (form : Form). allows form (fields-known c .fields-at .result .q) (fields-known c .fields-at .result .size))
+    (ap (λ (f : Fields). formOf (f .row)) (fields-known c .fields-at .ensures) ∙ sym (c .before .form-of .ensures))
     ∙ sym (c .allows-size .ensures)
 
 returns-2 : tie.Need-returns-2
-returns-2 c = sym (known (c .before .before .before) ∙ rw (tested (c .before) ∙ c .if2 .taken))
+returns-2 c = sym (known (fields-known (c .before)) ∙ rw (tested (c .before) ∙ c .if2 .taken))
 
 returns-3 : tie.Need-returns-3
-returns-3 c = sym (known (c .before .before .before) ∙ rw (tested (c .before) ∙ c .if2 .left))
+returns-3 c = sym (known (fields-known (c .before)) ∙ rw (tested (c .before) ∙ c .if2 .left))
 
 pub decode-spec : {M : Type 1} → statement M
-decode-spec =
-    tie.close
-    (tie.spec
-    row-of-requires
-    returns
-    fields-at-requires
-    form-of-requires
-    allows-size-requires
-    returns-2
-    returns-3)
+decode-spec = tie.close (tie.spec (λ c κs. search needs) returns (λ c κs. search needs) (λ c κs. search needs) allows-size-requires returns-2 returns-3)

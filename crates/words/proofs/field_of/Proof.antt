@@ -10,12 +10,6 @@ use Rattle.words.specs.Digits.{wordDigits}
 use Rattle.words.proofs.field_of.Statement.{statement}
 use Rattle.words.proofs.field_of.Tie as tie
 
-shr-result : tie.Need-shr-result
-shr-result c = search needs
-
-shl-result : tie.Need-shl-result
-shl-result c = search needs
-
 -- the power of two fits the word
 power : (count : ℕ) → count < wordDigits → 1 * 2 ^ count % 2 ^ wordDigits ≡ 2 ^ count
 power count h = shl-exact 1 count wordDigits (omega arith) (omega arith) ∙ one-mul _
@@ -35,4 +29,4 @@ returns : tie.Need-returns
 returns c = rw (power (c .args .count) (c .pre .1))
 
 pub field-of-spec : {M : Type 1} → statement M
-field-of-spec = tie.close (tie.spec shr-result shl-result rem-result cast-result returns)
+field-of-spec = tie.close (tie.spec (λ c. search needs) (λ c. search needs) rem-result cast-result returns)

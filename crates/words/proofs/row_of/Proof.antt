@@ -2,14 +2,10 @@
 -- Assumes nothing.
 use borrow.Author.Needs.{needs}
 use mathlib.Core.Path.{_≡_, refl, sym, _∙_}
-use mathlib.Core.Bool.{true, false}
 use Prim.Native.Nat.{ℕ, _≤_, _-_}
 use native.Mathlib.Omega.{arith}
 use lib.ListN.{drop}
-use borrow.Author.Tests.{eq-eqb, ne-eqb}
-use Rattle.words.specs.Digits.{wordDigits}
-use Rattle.words.specs.Table.{table, rows, rowAt, rowOf, matches, placeFrom}
-use Rattle.words.proofs.Digits.{and-digits}
+use Rattle.words.specs.Table.{table, rows, rowOf, placeFrom}
 use Rattle.words.proofs.Rows.{place-here, place-next}
 use Rattle.words.proofs.row_of.Statement.{statement}
 use Rattle.words.proofs.row_of.Tie as tie
@@ -24,43 +20,22 @@ loop-holds : tie.Need-loop-holds Inv-loop μ-loop
 unfolding rowOf
 loop-holds c = (omega arith, refl)
 
-mul-row : tie.Need-mul-row Inv-loop μ-loop
-mul-row c = search needs
+-- within the loop, and at its head
+abbrev in-loop : tie.After-matches Inv-loop μ-loop → tie.In-loop Inv-loop μ-loop
+in-loop c = c .before
 
-array-copy-out-row : tie.Need-array-copy-out-row Inv-loop μ-loop
-array-copy-out-row c = search needs
-
--- the row that was read matches where the test is passed, and does not where it fails
-hit : (c : tie.Then1 Inv-loop μ-loop)
-    → matches (rowAt (c .before .before .before .before .before .loop .i)) (c .before .before .before .before .before .before .args .word) ≡ true
-unfolding matches
-hit c =
-    eq-eqb _ _
-    (sym (and-digits wordDigits _ _ (c .before .before .before .before .before .before .fits .word .fits)) ∙ c .if1 .taken)
-
-miss : (c : tie.Else1 Inv-loop μ-loop)
-    → matches (rowAt (c .before .before .before .before .before .loop .i)) (c .before .before .before .before .before .before .args .word) ≡ false
-unfolding matches
-miss c =
-    ne-eqb _ _
-    (λ e. c .if1 .left (and-digits wordDigits _ _ (c .before .before .before .before .before .before .fits .word .fits) ∙ e))
+found : (c : tie.After-matches Inv-loop μ-loop)
+    → placeFrom (in-loop c .before .loop .i) (drop (in-loop c .before .loop .i) table) (in-loop c .before .before .args .word)
+    ≡ rowOf (in-loop c .before .before .args .word)
+found c = in-loop c .before .loop .inv .1
 
 returns : tie.Need-returns Inv-loop μ-loop
-returns c =
-    sym (place-here _ _ (c .before .before .before .before .loop-test .taken) (hit c))
-    ∙ c .before .before .before .before .before .loop .inv .1
-
-add-i : tie.Need-add-i Inv-loop μ-loop
-add-i c = search needs
-
-loop-less : tie.Need-loop-less Inv-loop μ-loop
-loop-less c = omega arith
+returns c = sym (place-here _ _ (in-loop (c .before) .loop-test .taken) (sym (c .before .matches .ensures) ∙ c .if1 .taken)) ∙ found (c .before)
 
 loop-again : tie.Need-loop-again Inv-loop μ-loop
 loop-again c = (
   omega arith,
-  sym (place-next _ _ (c .before .before .before .before .loop-test .taken) (miss c))
-      ∙ c .before .before .before .before .before .loop .inv .1,
+  sym (place-next _ _ (in-loop (c .before) .loop-test .taken) (sym (c .before .matches .ensures) ∙ c .if1 .left)) ∙ found (c .before),
 )
 
 -- past the last row the search stops
@@ -72,16 +47,4 @@ returns-2 : tie.Need-returns-2 Inv-loop μ-loop
 returns-2 c = past _ _ (omega arith) (c .before .loop .inv .1)
 
 pub row-of-spec : {M : Type 1} → statement M
-row-of-spec =
-    tie.close
-    (tie.spec
-    Inv-loop
-    μ-loop
-    loop-holds
-    mul-row
-    array-copy-out-row
-    returns
-    add-i
-    loop-less
-    loop-again
-    returns-2)
+row-of-spec = tie.close (tie.spec Inv-loop μ-loop loop-holds (λ c κs. search needs) returns (λ c. search needs) (λ c. omega arith) loop-again returns-2)

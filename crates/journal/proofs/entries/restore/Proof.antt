@@ -1,92 +1,78 @@
 -- `restore` meets its contract: what is written is the entry's old bytes, a whole register of them, into the register that it names.
 -- Assumes nothing.
 use borrow.Author.Needs.{needs}
-use Prim.Native.Nat.{_+_, _-_}
+use Prim.Native.Nat.{ℕ, _+_, _-_, _≤_}
 use mathlib.Core.Path.{_≡_, _∙_}
-use mathlib.Core.List.{append-nil}
+use mathlib.Core.List.{List, append-nil}
 use native.Mathlib.Nat.{sub-self}
 use native.Mathlib.Omega.{arith}
 use denote.Ref.{now}
-use lib.ListN.{length}
+use lib.ListN.{length, getD}
+use Rattle.parts.specs.Part.{part}
+use Rattle.parts.proofs.Parts.{length-part}
 use Rattle.machine.specs.Size.{vectorBytes}
-use Rattle.journal.specs.Layout.{entryAt, entryOld}
-use Rattle.journal.proofs.Part.{part, length-part}
+use Rattle.registers.specs.Register.{padded, withVector}
+use Rattle.journal.specs.Layout.{slotAt, entryIn}
+use Rattle.journal.specs.Needs.{EntryInside}
 use Rattle.journal.proofs.entries.restore.Statement.{statement}
 use Rattle.journal.proofs.entries.restore.Tie as tie
 
--- the bytes that are lent are the entry's old ones, as many as a register's
-old : (c : tie.After-vector-bytes) →
-    let s = c .before .before .before .before in
-    let at = c .before .entry-at .result + 1 in
-    part at (at + c .vector-bytes .result - at) (now (s .args .journal)) ≡ entryOld (s .args .k) (s .args .i) (now (s .args .journal))
-old c =
-    let s = c .before .before .before .before in
-    let at = c .before .entry-at .result + 1 in
-    let n : at + c .vector-bytes .result - at ≡ vectorBytes (s .args .k) = omega arith in
-    rw (n, c .before .entry-at .ensures)
+module _ (k i at bytes : ℕ) (journal : List ℕ) (place : at ≡ slotAt k i) (width : bytes ≡ vectorBytes k) (entry : EntryInside k i journal) where
+  -- the bytes that are lent are the entry's old ones, as many as a register's
+  old : part (at + 1) (at + 1 + bytes - (at + 1)) journal ≡ entryIn k journal i .old
+  old = let n : at + 1 + bytes - (at + 1) ≡ bytes = omega arith in rw (n, place, width)
 
-size : (c : tie.After-vector-bytes) →
-    let s = c .before .before .before .before in length (entryOld (s .args .k) (s .args .i) (now (s .args .journal))) ≡ vectorBytes (s .args .k)
-size c =
-    let s = c .before .before .before .before in
-    length-part (entryAt (s .args .k) (s .args .i) + 1) (vectorBytes (s .args .k)) (now (s .args .journal)) (omega arith)
+  size : length (entryIn k journal i .old) ≡ vectorBytes k
+  size = length-part (slotAt k i + 1) (vectorBytes k) journal (omega (arith, entry .inside))
 
-entry-at-requires : tie.Need-entry-at-requires
-entry-at-requires c κs = search needs
+  short : length (part (at + 1) (at + 1 + bytes - (at + 1)) journal) ≤ vectorBytes k
+  short = rw old (omega (arith, size))
 
-add-old : tie.Need-add-old
-add-old c = search needs
+  -- a register written with them
+  put-back : (z after : List ℕ) → after ≡ withVector k (getD journal at 0) (padded (vectorBytes k) (part (at + 1) (at + 1 + bytes - (at + 1)) journal)) z
+      → after ≡ withVector k (entryIn k journal i .number) (entryIn k journal i .old) z
+  put-back z after is = is ∙ rw (old, size, sub-self (vectorBytes k), append-nil, place)
 
-vector-bytes-requires : tie.Need-vector-bytes-requires
-vector-bytes-requires c κs = search needs
+abbrev start : tie.After-vector-bytes → tie.Start
+start c = c .before .before .before .before
 
-add-end : tie.Need-add-end
-add-end c = search needs
+abbrev measured : tie.After-shared-slice-known2 → tie.After-vector-bytes
+measured c = c .before .before
 
-shared-slice-read-write-vector : tie.Need-shared-slice-read-write-vector
-shared-slice-read-write-vector c = search needs
+abbrev written : tie.After-slice-known2 → tie.After-write-register
+written c = c .before .before
 
-cast-write-vector : tie.Need-cast-write-vector
-cast-write-vector c = omega (arith, c .shared-slice-known2 .given (c .before .before .before .entry-at .result))
+cast-write-register : tie.Need-cast-write-register
+cast-write-register c = omega (arith, c .shared-slice-known2 .given (measured c .before .slot-at .result))
 
-sub-write-vector : tie.Need-sub-write-vector
-sub-write-vector c = search needs
-
-part-write-vector-start : tie.Need-part-write-vector-start
-part-write-vector-start c = search needs
-
-part-write-vector-end : tie.Need-part-write-vector-end
-part-write-vector-end c = search needs
-
-write-vector-requires : tie.Need-write-vector-requires
-write-vector-requires c κs =
-    let s = c .before .before .before .before .before .before .before in
-    let v = c .before .before .before in
-    (s .pre .0 .legal, rw (v .before .entry-at .ensures) (s .pre .1), s .pre .2, rw (old v) (omega (arith, size v)))
-
-same-length : tie.Need-same-length
-same-length c = search needs
+write-register-requires : tie.Need-write-register-requires
+write-register-requires c κs =
+    let v = measured (c .before) in
+    let s = start v in (
+      rw (v .before .slot-at .ensures) (s .pre .register),
+      short (s .args .k) (s .args .i) _ _ (now (s .args .journal)) (v .before .slot-at .ensures) (v .vector-bytes .ensures) (s .pre .entry),
+    )
 
 returns : tie.Need-returns
 returns c =
-    let a = c .before .before .before .before .before .before .before .before .before .before .args in
-    let v = c .before .before .before .before .before .before in
-    c .before .before .write-vector .ensures
-    ∙ rw (old v, size v, sub-self (vectorBytes (a .k)), append-nil, v .before .entry-at .ensures)
+    let v = measured (written c .before .before) in
+    let s = start v in
+    put-back (s .args .k) (s .args .i) _ _ (now (s .args .journal)) (v .before .slot-at .ensures) (v .vector-bytes .ensures) (s .pre .entry) (now (s .args .z)) _
+    (written c .write-register .ensures)
 
 pub restore-spec : {M : Type 1} → statement M
 restore-spec =
     tie.close
     (tie.spec
-    entry-at-requires
-    add-old
-    vector-bytes-requires
-    add-end
-    shared-slice-read-write-vector
-    cast-write-vector
-    sub-write-vector
-    part-write-vector-start
-    part-write-vector-end
-    write-vector-requires
-    same-length
+    (λ c κs. search needs)
+    (λ c. search needs)
+    (λ c κs. search needs)
+    (λ c. search needs)
+    (λ c. search needs)
+    cast-write-register
+    (λ c. search needs)
+    (λ c. search needs)
+    (λ c. search needs)
+    write-register-requires
+    (λ c. search needs)
     returns)

@@ -1,63 +1,71 @@
 -- `take_back` meets its contract: the last entry's bytes go back, the entry is cleared and the count lowered.
 -- Assumes nothing.
-use mathlib.Core.Path.{_∙_}
 use borrow.Author.Needs.{needs}
+use Prim.Native.Nat.{ℕ, _-_}
+use mathlib.Core.Path.{_≡_, _∙_}
+use mathlib.Core.List.{List}
+use denote.Ref.{now}
+use lib.ListN.{replicate}
+use Rattle.parts.specs.Part.{withPart}
+use Rattle.registers.specs.Register.{withVector}
+use Rattle.journal.specs.Layout.{entryBytes, slotAt, heldOf, entryIn, withCount}
+use Rattle.journal.specs.Needs.{TakenBack}
 use Rattle.journal.proofs.entries.take_back.Statement.{statement}
 use Rattle.journal.proofs.entries.take_back.Tie as tie
 
-count-of-requires : tie.Need-count-of-requires
-count-of-requires c κs = search needs
+-- the bytes put back, the entry cleared and the count lowered
+taken-back : (k held at bytes : ℕ) (z journal z-after cleared after : List ℕ) → held ≡ heldOf journal → at ≡ slotAt k (held - 1) → bytes ≡ entryBytes k
+    → z-after ≡ withVector k (entryIn k journal (held - 1) .number) (entryIn k journal (held - 1) .old) z
+    → cleared ≡ withPart at bytes (replicate bytes 0) journal
+    → after ≡ withCount (held - 1) cleared
+    → TakenBack k z journal z-after after
+taken-back k held at bytes z journal z-after cleared after count place width put zeros is =
+    record { vectors = put ∙ rw count; bytes = is ∙ rw (zeros, place, width, count) }
 
-sub-i : tie.Need-sub-i
-sub-i c = search needs
+abbrev held : tie.After-restore-arg2 → tie.After-held-of
+held c = c .before .before
+
+abbrev start : tie.After-held-of → tie.Start
+start c = c .before .before .before .before
+
+abbrev restored : tie.After-entry-bytes → tie.After-restore
+restored c = c .before .before .before .before .before
+
+abbrev cleared : tie.After-put-count → tie.After-clear-part
+cleared c = c .before .before .before .before
 
 restore-requires : tie.Need-restore-requires
 restore-requires c κs =
-    let s = c .before .before .before .before .before .before in
-    rw (c .before .before .count-of .ensures) (s .pre .entry, s .pre .register, s .pre .file)
-
-entry-at-requires : tie.Need-entry-at-requires
-entry-at-requires c κs = search needs
-
-entry-bytes-requires : tie.Need-entry-bytes-requires
-entry-bytes-requires c κs = search needs
+    let s = start (held c) in rw (held c .held-of .ensures) (s .pre .last)
 
 clear-part-requires : tie.Need-clear-part-requires
 clear-part-requires c κs =
-    let s = c .before .before .before .before .before .before .before .before .before .before .before .before in
-    let e = c .before .before .before .before .before .before .before .before .count-of .ensures in
-    rw (c .before .entry-at .ensures, c .entry-bytes .ensures, e) (s .pre .entry .inside)
-
-put-count-requires : tie.Need-put-count-requires
-put-count-requires c κs = search needs
-
-same-length : tie.Need-same-length
-same-length c = search needs
-
-same-length-2 : tie.Need-same-length-2
-same-length-2 c = search needs
+    let h = held (restored c .before) in
+    rw (c .before .slot-at .ensures, c .entry-bytes .ensures, h .held-of .ensures) (start h .pre .last .entry .inside)
 
 returns : tie.Need-returns
 returns c =
-    let r = c .before .before .before .before .before .before .before .before .before .before .before .before in
-    let p = c .before .before .before .before .before .before in
-    let e = r .before .before .before .count-of .ensures in (
-      r .restore .ensures ∙ rw e,
-      c .before .before .put-count .ensures
-          ∙ rw (p .clear-part .ensures, p .before .before .entry-at .ensures, p .before .entry-bytes .ensures, e),
-    )
+    let n = c .before .before in
+    let e = cleared n .before in
+    let r = restored e in
+    let h = held (r .before) in
+    let a = start h .args in
+    taken-back (a .k) (h .held-of .result) _ _ (now (a .z)) (now (a .journal)) _ _ _ (h .held-of .ensures) (e .before .slot-at .ensures) (e .entry-bytes .ensures)
+    (r .restore .ensures)
+    (cleared n .clear-part .ensures)
+    (n .put-count .ensures)
 
 pub take-back-spec : {M : Type 1} → statement M
 take-back-spec =
     tie.close
     (tie.spec
-    count-of-requires
-    sub-i
+    (λ c κs. search needs)
+    (λ c. search needs)
     restore-requires
-    entry-at-requires
-    entry-bytes-requires
+    (λ c κs. search needs)
+    (λ c κs. search needs)
     clear-part-requires
-    put-count-requires
-    same-length
-    same-length-2
+    (λ c κs. search needs)
+    (λ c. search needs)
+    (λ c. search needs)
     returns)

@@ -1,40 +1,47 @@
 -- `check_journal` meets its contract: the size's refusal is the call's; past it the journal is judged.
 -- Assumes nothing.
 use borrow.Author.Needs.{needs}
+use Prim.Native.Nat.{ℕ}
 use mathlib.Core.Path.{_≡_, sym, _∙_}
-use mathlib.Core.Bool.{cond, not}
+use mathlib.Core.Bool.{not}
+use mathlib.Core.List.{List, [], _∷_}
 use denote.Ref.{now}
 use lib.ListN.{length}
-use Rattle.machine.specs.Refusal.{DONE, JOURNAL}
-use Rattle.pane.proofs.Tests.{first}
+use Rattle.machine.specs.Refusal.{JOURNAL, test, refused}
+use Rattle.machine.proofs.Tests.{refused-early, refused-later}
 use Rattle.journal.specs.Layout.{isJournal}
-use Rattle.journal.proofs.Refusals.{roomTests, refused-early, refused-later, room-given, room-least}
+use Rattle.journal.specs.Calls.{roomTests, journalTests}
+use Rattle.journal.proofs.Places.{room-least}
+use Rattle.journal.proofs.Formed.{room-given}
 use Rattle.journal.proofs.layout.check_journal.Statement.{statement}
 use Rattle.journal.proofs.layout.check_journal.Tie as tie
 
+abbrev start : tie.After-check-room → tie.Start
+start c = c .before .before
+
+-- what the last test answers
+abbrev judged : ℕ → List ℕ → ℕ
+judged k journal = refused (test JOURNAL (not (isJournal k journal)) ∷ [])
+
 -- past the size the journal's form decides
 decides : (c : tie.Else1) →
-    let a = c .before .before .before .args in
-    first (roomTests (length (now (a .journal)))) (cond (not (isJournal (a .k) (now (a .journal)))) JOURNAL DONE)
-    ≡ cond (not (isJournal (a .k) (now (a .journal)))) JOURNAL DONE
+    let a = start (c .before) .args in refused (journalTests (a .k) (now (a .journal))) ≡ judged (a .k) (now (a .journal))
 decides c =
-    let a = c .before .before .before .args in
-    refused-later (roomTests (length (now (a .journal)))) tt _ _ (c .before .check-room .ensures) (c .if1 .left)
-
-check-room-requires : tie.Need-check-room-requires
-check-room-requires c κs = search needs
+    let a = start (c .before) .args in
+    refused-later (roomTests (length (now (a .journal)))) tt (judged (a .k) (now (a .journal))) _ (c .before .check-room .ensures) (c .if1 .left)
 
 returns : tie.Need-returns
 returns c =
-    let a = c .before .before .before .args in
-    refused-early (roomTests (length (now (a .journal)))) tt (cond (not (isJournal (a .k) (now (a .journal)))) JOURNAL DONE) _
-    (c .before .check-room .ensures)
-    (c .if1 .taken)
+    let a = start (c .before) .args in
+    refused-early (roomTests (length (now (a .journal)))) tt (judged (a .k) (now (a .journal))) _ (c .before .check-room .ensures) (c .if1 .taken)
 
 is-journal-requires : tie.Need-is-journal-requires
 is-journal-requires c κs =
-    let a = c .before .before .before in
-    (a .pre, room-least _ (room-given (length (now (a .args .journal))) _ (c .before .check-room .ensures) (c .if1 .left)))
+    let s = start (c .before) in
+    record {
+      legal = s .pre;
+      header = room-least _ (room-given (length (now (s .args .journal))) _ (c .before .check-room .ensures) (c .if1 .left));
+    }
 
 returns-2 : tie.Need-returns-2
 returns-2 c = rw (decides (c .before .before), sym (c .before .is-journal .ensures) ∙ c .if2 .taken)
@@ -44,4 +51,4 @@ returns-3 c = rw (decides (c .before .before), sym (c .before .is-journal .ensur
 
 pub check-journal-spec : {M : Type 1} → statement M
 check-journal-spec =
-    tie.close (tie.spec check-room-requires returns is-journal-requires returns-2 returns-3)
+    tie.close (tie.spec (λ c κs. search needs) returns is-journal-requires returns-2 returns-3)

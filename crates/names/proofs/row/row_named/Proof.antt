@@ -5,14 +5,14 @@ use mathlib.Core.List.{List}
 use Prim.Native.Nat.{ℕ, _≤_, _-_}
 use native.Mathlib.Omega.{arith}
 use lib.ListN.{take, drop}
-use Rattle.words.specs.Table.{rows}
-use Rattle.names.specs.Text.{keyBytes, keys, keyFrom, rowNamed}
+use Rattle.words.specs.Table.{nameBytes, rows}
+use Rattle.names.specs.Text.{keys, keyFrom, rowNamed}
 use Rattle.names.proofs.Keys.{key-here, key-next}
 use Rattle.names.proofs.row.row_named.Statement.{statement}
 use Rattle.names.proofs.row.row_named.Tie as tie
 
 abbrev Inv-loop : tie.InvT-loop
-Inv-loop text i₀ i = (i ≤ rows) × (keyFrom i (drop i keys) (take keyBytes text) ≡ rowNamed text)
+Inv-loop text i₀ i = (i ≤ rows) × (keyFrom i (drop i keys) (take nameBytes text) ≡ rowNamed text)
 
 abbrev μ-loop : tie.MeasureT-loop
 μ-loop text i₀ i = rows - i
@@ -21,21 +21,12 @@ loop-holds : tie.Need-loop-holds Inv-loop μ-loop
 unfolding rowNamed
 loop-holds c = (omega arith, refl)
 
-is-named-requires : tie.Need-is-named-requires Inv-loop μ-loop
-is-named-requires c κs = omega arith
-
 returns : tie.Need-returns Inv-loop μ-loop
 returns c =
     let is-named = c .before .is-named in
     let loop-test = c .before .before .loop-test in
     let loop = c .before .before .before .loop in
     sym (key-here _ _ (loop-test .taken) (sym (is-named .ensures) ∙ c .if1 .taken)) ∙ loop .inv .1
-
-add-i : tie.Need-add-i Inv-loop μ-loop
-add-i c = omega arith
-
-loop-less : tie.Need-loop-less Inv-loop μ-loop
-loop-less c = omega arith
 
 loop-again : tie.Need-loop-again Inv-loop μ-loop
 loop-again c =
@@ -47,7 +38,7 @@ loop-again c =
     )
 
 -- past the last row the search stops
-past : (i : ℕ) (text : List ℕ) → i ≡ rows → keyFrom i (drop i keys) (take keyBytes text) ≡ rowNamed text → i ≡ rowNamed text
+past : (i : ℕ) (text : List ℕ) → i ≡ rows → keyFrom i (drop i keys) (take nameBytes text) ≡ rowNamed text → i ≡ rowNamed text
 unfolding keyFrom
 past i text e h = e ∙ (rw e at h)
 
@@ -55,4 +46,4 @@ returns-2 : tie.Need-returns-2 Inv-loop μ-loop
 returns-2 c = past _ _ (omega arith) (c .before .loop .inv .1)
 
 pub row-named-spec : {M : Type 1} → statement M
-row-named-spec = tie.close (tie.spec Inv-loop μ-loop loop-holds is-named-requires returns add-i loop-less loop-again returns-2)
+row-named-spec = tie.close (tie.spec Inv-loop μ-loop loop-holds (λ c κs. omega arith) returns (λ c. omega arith) (λ c. omega arith) loop-again returns-2)

@@ -1,0 +1,44 @@
+-- `by_family` meets its contract: a case for each family.
+-- Assumes nothing.
+use borrow.Author.Needs.{needs}
+use Rattle.assembles.proofs.by_family.Statement.{statement}
+use Rattle.assembles.proofs.by_family.Tie as tie
+
+returns : tie.Need-returns
+returns c = rw (c .before .before .before .before .family .given .1, c .before .enum-told .given .1) (c .fields .ensures)
+
+returns-2 : tie.Need-returns-2
+returns-2 c = rw (c .before .before .before .before .family .given .1, c .before .enum-told2 .given .1) (c .fields2 .ensures)
+
+returns-3 : tie.Need-returns-3
+returns-3 c = rw (c .before .before .before .before .family .given .1, c .before .enum-told3 .given .1) (c .fields3 .ensures)
+
+returns-4 : tie.Need-returns-4
+returns-4 c = rw (c .before .before .before .before .family2 .given .1, c .before .enum-told4 .given .1) (c .fields4 .ensures)
+
+returns-5 : tie.Need-returns-5
+returns-5 c = rw (c .before .before .before .before .family2 .given .1, c .before .enum-told5 .given .1) (c .fields5 .ensures)
+
+pub by-family-spec : {M : Type 1} → statement M
+by-family-spec =
+    tie.close
+    (tie.spec
+    (λ c. search needs)
+    (λ c. search needs)
+    (λ c κs. search needs)
+    (λ c. search needs)
+    (λ c κs. search needs)
+    (λ c. search needs)
+    (λ c κs. search needs)
+    (λ c. search needs)
+    (λ c. search needs)
+    (λ c. search needs)
+    (λ c κs. search needs)
+    (λ c. search needs)
+    (λ c. search needs)
+    (λ c κs. search needs)
+    returns
+    returns-2
+    returns-3
+    returns-4
+    returns-5)

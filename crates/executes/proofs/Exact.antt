@@ -1,0 +1,133 @@
+-- What the destination's lanes hold. Every lane that is written holds the low digits of the exact sum of what feeds it; read at its sign it
+-- is that sum, where the terms are of one sign and width and few enough: for saddv, for uaddv below 64 bits, for the sums across a
+-- vector and for the widening adds.
+-- Assumes nothing.
+use Prim.Native.Nat.{ℕ, zero, suc, _+_, _*_, _-_, _/_, _^_, _≤_, _<_}
+use mathlib.Core.Path.{_≡_, refl, _∙_, ap}
+use mathlib.Core.Bool.{Bool, true}
+use mathlib.Core.List.{List, [], _∷_, map}
+use native.Mathlib.Nat.{zero-add, mod-eq-of-lt, div-le-self, mul-le-mul-right}
+use native.Mathlib.Omega.{arith}
+use lib.ListN.{length, take, drop, replicate, length-map}
+use lib.Pow.{pow-add, pow-lt, pow-mono}
+use borrow.Author.Tests.{leb-true}
+use Rattle.machine.specs.Size.{mostLength, vectorBytes}
+use Rattle.parts.specs.Number.{bitsOf, AreBytes}
+use Rattle.parts.proofs.Numbers.{drop-bytes}
+use Rattle.registers.specs.Register.{vectorOf}
+use Rattle.registers.specs.State.{State}
+use Rattle.lanes.specs.Lane.{widthOf, lane}
+use Rattle.lanes.specs.Integer.{integer, residue}
+use Rattle.lanes.specs.Sum.{each}
+use Rattle.lanes.proofs.Residues.{residue-lt}
+use Rattle.lanes.proofs.Sums.{AllWithin, within-counted, sum-is-exact, length-each}
+use Rattle.lanes.proofs.Written.{read-lane}
+use Rattle.words.specs.Table.{formOf, familyOf}
+use Rattle.words.proofs.Decoding.{q-below}
+use Rattle.words.specs.declared.Fields.{Fields}
+use Rattle.words.specs.declared.Parameters.{Parameters}
+use Rattle.words.specs.declared.Family.{Family}
+use Rattle.words.specs.declared.Family.the-variants.{Low, Wide}
+use Rattle.words.specs.declared.LowFamily.the-variants.{Reduction, Segment, Long}
+use Rattle.words.specs.declared.WideFamily.the-variants.{Pairwise, Widening}
+use Rattle.sums.proofs.Accepted.{width-legal}
+use Rattle.executes.specs.Terms.{Operands, Source, Operand1, Operand2, Old, operandOf, Term, added, sumOf, governedTerm, freeTerm, dataBytes}
+use Rattle.executes.specs.Meaning.{familyTerms, widthAfter}
+use Rattle.executes.specs.Execute.{operandsOf, maskOf, feeds, integerAfter, widthFor, lanesFor, writtenFor, destinationAfter}
+use Rattle.executes.specs.Needs.{Executable}
+use Rattle.executes.specs.Theorems.{isExact}
+use Rattle.executes.proofs.Sizes.{false-not-true, k-most}
+
+-- terms of one sign and width
+abbrev Alike : Bool → ℕ → List Term → Type 0
+Alike signed w [] = Unit {0}
+Alike signed w (t ∷ ts) = (t .signed ≡ signed) × (t .width ≡ w) × Alike signed w ts
+
+alike-each : (signed : Bool) (w : ℕ) (f : ℕ → Term) (e n : ℕ) → ((i : ℕ) → (f i .signed ≡ signed) × (f i .width ≡ w)) → Alike signed w (each f e n)
+alike-each signed w f e zero h = tt
+alike-each signed w f e (suc n) h = (h e .0, h e .1, alike-each signed w f (suc e) n h)
+
+few-each : (f : ℕ → Term) (n m : ℕ) → n ≤ m → length (each f 0 n) ≤ m
+few-each f n m h = rw (length-each f 0 n) h
+
+-- terms of one sign and width, so few that E digits hold their sum
+record Few (signed : Bool) (E : ℕ) (ts : List Term) : Type 0 where
+  width : ℕ
+  power : ℕ
+  alike : Alike signed width ts
+  most : length ts ≤ 2 ^ power
+  room : power + bitsOf width < E
+
+module _ (o : Operands) (bytes : (source : Source) → AreBytes (operandOf o source)) where
+  -- each of them lies within its digits
+  within-terms : (signed : Bool) (w : ℕ) (ts : List Term) → Alike signed w ts → AllWithin signed (2 ^ bitsOf w) (map (added o) ts)
+  within-terms signed w [] h = tt
+  within-terms signed w (t ∷ ts) h = (
+    rw (← h .0, ← h .1) (within-counted (t .isActive) (t .signed) (t .width) (t .number) (operandOf o (t .source)) (bytes (t .source))),
+    within-terms signed w ts (h .2),
+  )
+
+  -- so the low E digits of their sum, read at their sign, are the sum
+  few-exact : (signed : Bool) (E : ℕ) (ts : List Term) → Few signed E ts → integer signed E (residue E (sumOf o ts)) ≡ sumOf o ts
+  few-exact signed E ts h =
+      sum-is-exact signed (2 ^ bitsOf (h .width)) E (map (added o) ts) (within-terms signed (h .width) ts (h .alike))
+      (rw (length-map ts (added o))
+      (omega (arith, mul-le-mul-right (2 ^ bitsOf (h .width)) (h .most), pow-add 2 (h .power) (bitsOf (h .width)), pow-lt {i = h .power + bitsOf (h .width)} {j = E} (h .room))))
+
+-- the terms of a family and size whose answer is exact are few
+few-terms : (family : Family) (ps : Parameters) (k q size : ℕ) (mask : List ℕ) (e : ℕ) → k ≤ mostLength → q < 2 → size < 4 → isExact family size ≡ true
+    → Few (ps .signed) (bitsOf (widthAfter family (widthOf size))) (familyTerms family ps (widthOf size) q (vectorBytes k) mask e)
+few-terms (Low Reduction) ps k q size mask e km ql sl ex = record {
+  width = widthOf size;
+  power = 8;
+  alike = alike-each (ps .signed) (widthOf size) (governedTerm (ps .signed) (widthOf size) mask) 0 (vectorBytes k / widthOf size) (λ i. (refl, refl));
+  most = few-each (governedTerm (ps .signed) (widthOf size) mask) (vectorBytes k / widthOf size) (2 ^ 8) (omega (arith, div-le-self (vectorBytes k) (widthOf size)));
+  room = omega (arith, pow-mono {i = size} {j = 2} (leb-true size 2 ex));
+}
+few-terms (Low Segment) ps k q size mask e km ql sl ex = absurd (false-not-true ex)
+few-terms (Low Long) ps k q size mask e km ql sl ex = record {
+  width = widthOf size;
+  power = 4;
+  alike = alike-each (ps .signed) (widthOf size) (freeTerm (ps .signed) (widthOf size)) 0 (dataBytes q / widthOf size) (λ i. (refl, refl));
+  most = few-each (freeTerm (ps .signed) (widthOf size)) (dataBytes q / widthOf size) (2 ^ 4) (omega (arith, div-le-self (dataBytes q) (widthOf size), pow-mono {i = q} {j = 1} (omega arith)));
+  room = omega (arith, width-legal size sl .0);
+}
+few-terms (Wide Pairwise) ps k q size mask e km ql sl ex = absurd (false-not-true ex)
+few-terms (Wide Widening) ps k q size mask e km ql sl ex = record {
+  width = widthOf size / 2;
+  power = 1;
+  alike = (refl, refl, (refl, refl, tt));
+  most = omega arith;
+  room = omega (arith, width-legal size sl .0);
+}
+
+-- a register of bytes
+take-bytes : (n : ℕ) (l : List ℕ) → AreBytes l → AreBytes (take n l)
+take-bytes zero l h i = omega arith
+take-bytes (suc n) [] h i = omega arith
+take-bytes (suc n) (b ∷ bs) h zero = h 0
+take-bytes (suc n) (b ∷ bs) h (suc i) = take-bytes n bs (λ j. h (suc j)) i
+
+vector-bytes : (k r : ℕ) (z : List ℕ) → AreBytes z → AreBytes (vectorOf k r z)
+vector-bytes k r z h = take-bytes (vectorBytes k) (drop (r * vectorBytes k) z) (drop-bytes (r * vectorBytes k) z h)
+
+operand-bytes : (f : Fields) (k : ℕ) (s : State) → AreBytes (s .z) → (source : Source) → AreBytes (operandOf (operandsOf f k s) source)
+operand-bytes f k s h Operand1 = vector-bytes k (f .n) (s .z) h
+operand-bytes f k s h Operand2 = vector-bytes k (f .m) (s .z) h
+operand-bytes f k s h Old = vector-bytes k (f .d) (s .z) h
+
+module _ (f : Fields) (k : ℕ) (s : State) where
+  -- every lane that a word writes holds the sum of what feeds it modulo 2^width
+  pub answer-modulo : (e : ℕ) → e < lanesFor f k → lane (widthFor f) e (destinationAfter f k s) ≡ residue (bitsOf (widthFor f)) (integerAfter f k s e)
+  answer-modulo e h =
+      read-lane (widthFor f) 0 (lanesFor f k) e (λ (i : ℕ). residue (bitsOf (widthFor f)) (integerAfter f k s i)) (replicate (vectorBytes k - length (writtenFor f k s)) 0) h
+      ∙ rw (zero-add e) (mod-eq-of-lt (residue-lt (bitsOf (widthFor f)) (integerAfter f k s e)))
+
+  -- read at its sign it is the exact sum: saddv, uaddv below 64 bits, saddlv, uaddlv, and the widening adds
+  pub answer-exact : Executable f k s → AreBytes (s .z) → isExact (familyOf (f .row)) (f .size) ≡ true → (e : ℕ) → e < lanesFor f k
+      → integer (formOf (f .row) .parameters .signed) (bitsOf (widthFor f)) (lane (widthFor f) e (destinationAfter f k s)) ≡ integerAfter f k s e
+  answer-exact x b ex e h =
+      ap (integer (formOf (f .row) .parameters .signed) (bitsOf (widthFor f))) (answer-modulo e h)
+      ∙ few-exact (operandsOf f k s) (operand-bytes f k s b) (formOf (f .row) .parameters .signed) (bitsOf (widthFor f)) (feeds f k s e)
+      (few-terms (familyOf (f .row)) (formOf (f .row) .parameters) k (f .q) (f .size) (maskOf f k s) e
+      (k-most f k s x) (q-below (familyOf (f .row)) (x .fields .q)) (x .fields .size) ex)

@@ -1,0 +1,9 @@
+pub mod Halves
+pub mod Padded
+pub mod Sizes
+pub mod Summed
+pub mod InPlace
+pub mod LowWritten
+pub mod Exact
+pub mod Matter
+pub mod Calls

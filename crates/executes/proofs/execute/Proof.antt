@@ -1,0 +1,76 @@
+-- `execute` meets its contract: the low bytes that a word of a low family makes, padded to the register's size, are the destination's new
+-- bytes, and the lanes of a wide family are written in place.
+-- Assumes nothing.
+use borrow.Author.Needs.{needs}
+use Prim.Native.Nat.{ℕ, _≤_}
+use mathlib.Core.Path.{_≡_, sym, _∙_, ap}
+use mathlib.Core.List.{List}
+use native.Mathlib.Omega.{arith}
+use lib.ListN.{length}
+use Rattle.machine.specs.Size.{vectorBytes, segmentBytes}
+use Rattle.registers.specs.Register.{padded, withVector}
+use Rattle.registers.specs.State.{state}
+use Rattle.words.specs.Table.{familyOf}
+use Rattle.words.specs.declared.Form.{Form}
+use Rattle.words.specs.declared.Family.the-variants.{Low, Wide}
+use Rattle.executes.specs.Execute.{writtenFor}
+use Rattle.executes.proofs.Padded.{length-padded, padded-padded}
+use Rattle.executes.proofs.Sizes.{k-least, vector-in, low-written-fits}
+use Rattle.executes.proofs.execute.Statement.{statement}
+use Rattle.executes.proofs.execute.Tie as tie
+
+-- where the low bytes come from, and what family the word is of
+abbrev low-start : tie.After-low-bytes → tie.Start
+low-start c = c .before .before .before .before .before .before .before .before
+
+low-is : (c : tie.After-family) → familyOf (c .before .before .before .before .before .args .f .row) ≡ Low (c .family .given .0 .0)
+low-is c = sym (ap (λ (form : Form). form .family) (c .before .before .form-of .ensures)) ∙ c .family .given .1
+
+wide-is : (c : tie.After-family2) → familyOf (c .before .before .before .before .before .args .f .row) ≡ Wide (c .family2 .given .0 .0)
+wide-is c = sym (ap (λ (form : Form). form .family) (c .before .before .form-of .ensures)) ∙ c .family2 .given .1
+
+-- what is written
+abbrev writes : tie.Start → List ℕ
+writes s = writtenFor (s .args .f) (s .args .k) (state (s .args .z .now) (s .args .p .now))
+
+-- by a low family it lies in sixteen bytes
+low-fits : (c : tie.After-low-bytes) → length (writes (low-start c)) ≤ segmentBytes
+low-fits c = low-written-fits _ _ _ (low-start c .pre) _ (low-is (c .before .before .before))
+
+low-sized : (c : tie.After-low-bytes) → length (c .low-bytes .result) ≡ segmentBytes
+low-sized c = ap length (c .low-bytes .ensures) ∙ length-padded segmentBytes (writes (low-start c)) (low-fits c)
+
+low-bytes-requires : tie.Need-low-bytes-requires
+low-bytes-requires c κs = record { word = c .before .before .before .before .before .before .before .pre; is = low-is (c .before .before) }
+
+write-register-requires : tie.Need-write-register-requires
+write-register-requires c κs =
+    let h = low-start (c .before .before) .pre in
+    (vector-in _ _ _ h _ (h .fields .d), omega (arith, low-sized (c .before .before), k-least _ _ _ h))
+
+write-lanes-requires : tie.Need-write-lanes-requires
+write-lanes-requires c κs = record { word = c .before .before .before .before .before .before .before .pre; is = wide-is (c .before .before) }
+
+returns : tie.Need-returns
+returns c =
+    let w = c .before .before .before .before .before in
+    let a = low-start w .args in
+    c .before .before .write-register .ensures
+    ∙ ap (λ (bytes : List ℕ). withVector (a .k) (a .f .d) bytes (a .z .now))
+    (ap (padded (vectorBytes (a .k))) (w .low-bytes .ensures) ∙ padded-padded segmentBytes (vectorBytes (a .k)) (writes (low-start w)) (low-fits w) (omega (arith, k-least _ _ _ (low-start w .pre))))
+
+pub execute-spec : {M : Type 1} → statement M
+execute-spec =
+    tie.close
+    (tie.spec
+    (λ c κs. search needs)
+    (λ c. search needs)
+    low-bytes-requires
+    (λ c. search needs)
+    write-register-requires
+    (λ c. search needs)
+    write-lanes-requires
+    (λ c. search needs)
+    returns
+    (λ c. search needs)
+    (λ c. search needs))

@@ -1,0 +1,5 @@
+pub mod Terms
+pub mod Meaning
+pub mod Execute
+pub mod Needs
+pub mod Theorems

@@ -1,0 +1,5 @@
+pub mod Pieces
+pub mod Hex
+pub mod Lines
+pub mod Longest
+pub mod Placed

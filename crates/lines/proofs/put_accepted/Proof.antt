@@ -1,0 +1,41 @@
+-- `put_accepted` meets its contract: the lead, the text and the register, one after the other.
+-- Assumes nothing.
+use mathlib.Core.List.{_++_}
+use native.Mathlib.Omega.{arith}
+use denote.Ref.{now}
+use lib.ListN.{length-append}
+use borrow.Author.Needs.{needs}
+use Rattle.machine.specs.Refusal.{DONE}
+use Rattle.names.specs.Named.{textOfWord, Put}
+use Rattle.names.proofs.Puts.{put-then, put-length}
+use Rattle.lines.specs.Line.{lead, spaced, ended, hexOf}
+use Rattle.lines.proofs.put_accepted.Statement.{statement}
+use Rattle.lines.proofs.put_accepted.Tie as tie
+
+-- where the function started
+abbrev start : tie.After-put-text → tie.Start
+start c = c .before .before .before .before .before .before .before .before
+
+-- the lead and the text are written
+texted : (c : tie.After-put-text) → let a = start c .args in
+    Put (now (a .out)) 0 (lead (a .position) DONE ++ spaced (textOfWord (a .word))) (c .put-text .last .0) (c .put-text .result)
+texted c = put-then (c .before .before .before .before .put-lead .ensures) (c .put-text .ensures)
+
+put-register-requires : tie.Need-put-register-requires
+put-register-requires c κs =
+    let t = c .before .before .before in
+    let a = start t .args in
+    omega (
+      arith,
+      length-append (lead (a .position) DONE ++ spaced (textOfWord (a .word))) (ended (hexOf (now (a .register)))),
+      texted t .after,
+      put-length (texted t),
+    )
+
+returns : tie.Need-returns
+returns c = put-then (texted (c .before .before .before .before .before .before)) (c .before .before .put-register .ensures)
+
+pub put-accepted-spec : {M : Type 1} → statement M
+put-accepted-spec =
+    tie.close
+    (tie.spec (λ c. search needs) (λ c κs. search needs) (λ c κs. search needs) put-register-requires (λ c. search needs) returns)

@@ -1,0 +1,30 @@
+-- `put_refused` meets its contract: the lead, then the word.
+-- Assumes nothing.
+use mathlib.Core.Path.{_≡_}
+use Prim.Native.Nat.{_+_}
+use native.Mathlib.Omega.{arith}
+use lib.ListN.{length, length-append}
+use borrow.Author.Needs.{needs}
+use Rattle.names.specs.Digits.{digitsIn}
+use Rattle.names.proofs.Puts.{put-then, put-length}
+use Rattle.lines.specs.Line.{sixteen, wordDigits, lead, ended, refusedLine}
+use Rattle.lines.proofs.put_refused.Statement.{statement}
+use Rattle.lines.proofs.put_refused.Tie as tie
+
+-- the bytes of both pieces
+both : (c : tie.Start) → let a = c .args in
+    length (refusedLine (a .position) (a .number) (a .word)) ≡ length (lead (a .position) (a .number)) + length (ended (digitsIn sixteen wordDigits (a .word)))
+both c = length-append (lead (c .args .position) (c .args .number)) (ended (digitsIn sixteen wordDigits (c .args .word)))
+
+put-lead-requires : tie.Need-put-lead-requires
+put-lead-requires c κs = omega (arith, both (c .before .before))
+
+put-word-requires : tie.Need-put-word-requires
+put-word-requires c κs =
+    omega (arith, both (c .before .before .before .before .before .before), put-length (c .before .before .before .put-lead .ensures))
+
+returns : tie.Need-returns
+returns c = put-then (c .before .before .before .before .before .before .put-lead .ensures) (c .before .before .put-word .ensures)
+
+pub put-refused-spec : {M : Type 1} → statement M
+put-refused-spec = tie.close (tie.spec put-lead-requires put-word-requires (λ c. search needs) returns)

@@ -1,0 +1,172 @@
+-- `write_line` meets its contract: what the line is asked of refuses, or the word of a step that is told done, or the line is written.
+-- Assumes nothing.
+use mathlib.Core.Path.{_≡_, sym, _∙_, ap}
+use Prim.Native.Nat.{ℕ, _≤_}
+use native.Mathlib.Omega.{arith}
+use denote.Ref.{now}
+use lib.ListN.{length}
+use borrow.Author.Needs.{needs}
+use Rattle.machine.specs.Size.{mostLength, mostWords, vectorBytes}
+use Rattle.machine.specs.Refusal.{UNKNOWN, UNDEFINED, refused}
+use Rattle.machine.proofs.Checks.{legal-most}
+use Rattle.registers.specs.declared.Kind.the-variants.{Vector}
+use Rattle.registers.specs.Register.{InFile}
+use Rattle.registers.proofs.Places.{length-register}
+use Rattle.registers.specs.State.{State, state}
+use Rattle.words.specs.Decode.{decoded, numberOf}
+use Rattle.words.specs.declared.Decoded.the-variants.{Word}
+use Rattle.words.proofs.Encoding.{decoded-in-range}
+use Rattle.programs.specs.declared.Next.{Next}
+use Rattle.programs.specs.Word.{wordAt}
+use Rattle.lines.specs.Line.{placedTests, lineRefused, refusedLine, acceptedLine}
+use Rattle.lines.proofs.Lines.{written-refused, written-done}
+use Rattle.lines.proofs.Longest.{refused-most, accepted-most, accepted-room}
+use Rattle.lines.proofs.Placed.{Ready, ready, early, found-right, found-word, refused-passes, word-decides, refused-line, accepted-line}
+use Rattle.lines.proofs.write_line.Statement.{statement}
+use Rattle.lines.proofs.write_line.Tie as tie
+
+-- where the function started, and the files that it is lent
+abbrev start : tie.After-placed-word → tie.Start
+start c = c .before .before .before .before .before
+
+abbrev files : tie.Start → State
+files c = state (now (c .args .z)) (now (c .args .p))
+
+abbrev room : tie.Start → ℕ
+room c = length (now (c .args .out))
+
+-- past the first test what the line is asked of is right, and the word that was found is the program's
+placed : (c : tie.Else1) → let s = start (c .before .before) in
+    refused (placedTests (s .args .k) (files s) (now (s .args .program)) (s .args .position) (room s)) ≡ 0
+placed c =
+    let s = start (c .before .before) in
+    let found = c .before .before .placed-word in
+    found-right (s .args .k) (files s) (now (s .args .program)) (s .args .position) (room s) (found .result) (found .ensures) (c .if1 .left)
+
+is-word : (c : tie.Else1) → let s = start (c .before .before) in c .before .before .placed-word .result .word ≡ wordAt (now (s .args .program)) (s .args .position)
+is-word c =
+    let s = start (c .before .before) in
+    let found = c .before .before .placed-word in
+    found-word (s .args .k) (files s) (now (s .args .program)) (s .args .position) (room s) (found .result) (found .ensures) (c .if1 .left)
+
+known : (c : tie.Else1) → let s = start (c .before .before) in Ready (s .args .k) (files s) (now (s .args .program)) (s .args .position) (room s)
+known c =
+    let s = start (c .before .before) in
+    ready (s .args .k) (files s) (now (s .args .program)) (s .args .position) (room s) (placed c)
+
+-- of a step that is told done the word decides
+decides : (c : tie.After-decode) → let s = start (c .before .before .before .before) in
+    lineRefused (s .args .k) (files s) (now (s .args .program)) (s .args .position) (s .args .number) (room s) ≡ numberOf (c .decode .result)
+decides c =
+    let s = start (c .before .before .before .before) in
+    word-decides (s .args .k) (files s) (now (s .args .program)) (s .args .position) (room s) (s .args .number) (placed (c .before .before))
+    (c .before .if2 .left) _ (c .decode .result) (is-word (c .before .before)) (c .decode .ensures)
+
+-- an accepted word's fields, and the register that is shown
+accepted : (c : tie.After-fields) → decoded (c .before .before .before .before .before .before .placed-word .result .word) ≡ Word (c .fields .given .0 .0)
+accepted c = sym (c .before .before .decode .ensures) ∙ c .fields .given .1
+
+returns : tie.Need-returns
+returns c =
+    let s = start (c .before .before .before) in
+    let found = c .before .before .before .placed-word in
+    written-refused _ _ _ (c .refuse .result) (found .result .number) (c .refuse .ensures)
+    (early (s .args .k) (files s) (now (s .args .program)) (s .args .position) (room s) (s .args .number) _ (ap (λ (n : Next). n .number) (found .ensures)) (c .before .if1 .taken))
+    (c .before .if1 .taken)
+
+put-refused-requires : tie.Need-put-refused-requires
+put-refused-requires c κs =
+    let e = c .before .before in
+    let s = start (e .before .before) in
+    let r = known e in
+    omega (arith, r .room, refused-most (s .args .position) (omega (arith, r .inside)) (s .args .number) (e .before .before .placed-word .result .word))
+
+returns-2 : tie.Need-returns-2
+returns-2 c =
+    let e = c .before .before .before .before .before .before in
+    let s = start (e .before .before) in
+    let word = e .before .before .placed-word .result .word in
+    let other = c .before .before .before .before .before .if2 .taken in
+    let r = known e in
+    written-done _ _ _ (c .done .result) _ (refusedLine (s .args .position) (s .args .number) word) _ (c .done .ensures)
+    (refused-passes (s .args .k) (files s) (now (s .args .program)) (s .args .position) (room s) (s .args .number) (placed e) other)
+    (refused-line (s .args .k) (files s) (now (s .args .program)) (s .args .position) (s .args .number) word (is-word e) other)
+    (omega (arith, r .room, refused-most (s .args .position) (omega (arith, r .inside)) (s .args .number) word))
+    (c .before .before .before .put-refused .ensures)
+
+-- the destination register lies in the vector file, and is not longer than the longest
+destination : (c : tie.After-known-told) → let s = start (c .before .before .before .before .before .before .before) in
+    InFile (s .args .k) Vector (c .before .fields .given .0 .0 .d) (now (s .args .z))
+destination c =
+    let r = known (c .before .before .before .before .before) .files in
+    record {
+      legal = legal-most _ (r .legal);
+      register = decoded-in-range _ _ (accepted (c .before)) .d;
+      sized = r .vectorSize;
+    }
+
+few : (c : tie.After-register) → length (now (c .register .result)) ≤ vectorBytes mostLength
+few c =
+    let at = destination (c .before) in
+    omega (arith, ap length (c .register .ensures), length-register _ Vector _ _ at, at .legal)
+
+put-accepted-requires : tie.Need-put-accepted-requires
+put-accepted-requires c κs =
+    let e = c .before .before .before .before .before .before .before in
+    let s = start (e .before .before) in
+    let r = known e in
+    let position : s .args .position ≤ mostWords = omega (arith, r .inside) in
+    let word = e .before .before .placed-word .result .word in (
+      omega (arith, r .room, accepted-room (s .args .position) position),
+      omega (arith, r .room, few (c .before), accepted-most (s .args .position) position word (now (c .before .register .result))),
+    )
+
+returns-3 : tie.Need-returns-3
+returns-3 c =
+    written-refused _ _ _ (c .refuse2 .result) UNKNOWN (c .refuse2 .ensures)
+    (sym (decides (c .before .before .before) ∙ ap numberOf (c .before .enum-told .given .1))) (λ e. omega arith)
+
+returns-4 : tie.Need-returns-4
+returns-4 c =
+    written-refused _ _ _ (c .refuse3 .result) UNDEFINED (c .refuse3 .ensures)
+    (sym (decides (c .before .before .before) ∙ ap numberOf (c .before .enum-told2 .given .1))) (λ e. omega arith)
+
+returns-5 : tie.Need-returns-5
+returns-5 c =
+    let shown = c .before .before .before .before .before in
+    let e = shown .before .before .before .before .before .before in
+    let s = start (e .before .before) in
+    let r = known e in
+    let word = e .before .before .placed-word .result .word in
+    let told = shown .before .before .before .before .before .if2 .left in
+    written-done _ _ _ (c .done2 .result) _ (acceptedLine (s .args .position) word (now (shown .register .result))) _ (c .done2 .ensures)
+    (decides (shown .before .before .before .before) ∙ ap numberOf (shown .before .before .fields .given .1))
+    (accepted-line (s .args .k) (files s) (now (s .args .program)) (s .args .position) (s .args .number) word (is-word e) told _
+    (accepted (shown .before .before)) _ (shown .register .ensures))
+    (omega (arith, r .room, few shown, accepted-most (s .args .position) (omega (arith, r .inside)) word (now (shown .register .result))))
+    (c .before .before .before .put-accepted .ensures)
+
+pub write-line-spec : {M : Type 1} → statement M
+write-line-spec =
+    tie.close
+    (tie.spec
+    (λ c κs. search needs)
+    (λ c κs. search needs)
+    returns
+    put-refused-requires
+    (λ c κs. search needs)
+    (λ c. search needs)
+    returns-2
+    (λ c κs. search needs)
+    (λ c. search needs)
+    (λ c κs. search needs)
+    (λ c. search needs)
+    (λ c κs. search needs)
+    (λ c. search needs)
+    (λ c κs. destination c)
+    put-accepted-requires
+    (λ c κs. search needs)
+    returns-3
+    returns-4
+    (λ c. search needs)
+    returns-5)

@@ -1,0 +1,31 @@
+-- `write_session_refusal` meets its contract: OUT, or the number and the newline.
+-- Assumes nothing.
+use mathlib.Core.Path.{refl}
+use native.Mathlib.Omega.{arith}
+use borrow.Author.Needs.{needs}
+use borrow.Author.Tests.{lt-ltb, le-ltb}
+use Rattle.machine.specs.Refusal.{OUT}
+use Rattle.names.specs.Digits.{digitsIn, decimalWidth}
+use Rattle.lines.specs.Line.{sessionLine}
+use Rattle.lines.proofs.Lines.{written-refused, written-done}
+use Rattle.lines.proofs.write_session_refusal.Statement.{statement}
+use Rattle.lines.proofs.write_session_refusal.Tie as tie
+
+returns : tie.Need-returns
+unfolding decimalWidth
+returns c = written-refused _ _ _ (c .refuse .result) OUT (c .refuse .ensures) (rw (lt-ltb _ _ (c .before .if1 .taken))) (λ e. omega arith)
+
+put-field-requires : tie.Need-put-field-requires
+unfolding digitsIn decimalWidth
+put-field-requires c κs = omega arith
+
+returns-2 : tie.Need-returns-2
+unfolding sessionLine digitsIn decimalWidth
+returns-2 c =
+    let room = c .before .before .before .before .before .if1 .left in
+    written-done _ _ _ (c .done .result) _ sessionLine _ (c .done .ensures) (rw (le-ltb _ _ room)) refl (omega arith) (c .before .before .before .put-field .ensures)
+
+pub write-session-refusal-spec : {M : Type 1} → statement M
+write-session-refusal-spec =
+    tie.close
+    (tie.spec (λ c κs. search needs) returns (λ c. search needs) put-field-requires (λ c κs. search needs) (λ c. search needs) returns-2)

@@ -1,0 +1,13 @@
+-- `put_bytes` meets its contract: the bytes written over a part are the bytes set one after the other.
+-- Assumes nothing.
+use borrow.Author.Needs.{needs}
+use mathlib.Core.Path.{refl, sym, _∙_}
+use lib.Seq.{sets-eq}
+use Rattle.names.proofs.digits.put_bytes.Statement.{statement}
+use Rattle.names.proofs.digits.put_bytes.Tie as tie
+
+returns : tie.Need-returns
+returns c = record { bytes = c .before .before .overwrite .ensures ∙ sym (sets-eq _ _ _ (c .before .before .before .before .before .before .pre)); after = refl }
+
+pub put-bytes-spec : {M : Type 1} → statement M
+put-bytes-spec = tie.close (tie.spec (λ c κs. search needs) (λ c. search needs) (λ c. search needs) returns)

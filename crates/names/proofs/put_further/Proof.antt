@@ -1,0 +1,53 @@
+-- `put_further` meets its contract: nothing where the field has no digits, else the comma, the space and the operand.
+-- Assumes nothing.
+use borrow.Author.Needs.{needs}
+use mathlib.Core.List.{_++_}
+use Prim.Native.Nat.{_+_, _≤_}
+use lib.ListN.{length}
+use Rattle.words.specs.Text.{bytes}
+use Rattle.names.specs.Text.{operandText}
+use Rattle.names.proofs.Pieces.{further-some}
+use Rattle.names.proofs.Puts.{put-then, put-none, room-first, room-rest}
+use Rattle.names.proofs.put_further.Statement.{statement}
+use Rattle.names.proofs.put_further.Tie as tie
+
+returns : tie.Need-returns
+returns c = rw (c .if1 .taken) (put-none _ _)
+
+-- where the function starts, where the field has digits, and where the comma and the space are written
+abbrev start : tie.Else1 → tie.Start
+start c = c .before .before
+
+abbrev there : tie.After-put-bytes → tie.Else1
+there c = c .before .before .before
+
+abbrev comma : tie.After-put-operand-arg → tie.After-put-bytes
+comma c = c .before .before .before
+
+room : (c : tie.Else1) → start c .args .at + length (bytes ", " ++ operandText (start c .args .operand)) ≤ length (start c .args .out .now)
+room c = rw (further-some _ (start c .args .operand) (c .if1 .left)) at (start c .pre)
+
+put-bytes-requires : tie.Need-put-bytes-requires
+put-bytes-requires c κs = room-first _ (bytes ", ") (operandText (start (c .before .before) .args .operand)) (room (c .before .before))
+
+put-operand-requires : tie.Need-put-operand-requires
+put-operand-requires c κs =
+    let at = comma c in
+    room-rest (operandText (start (there at) .args .operand)) (at .put-bytes .ensures) (room (there at))
+
+returns-2 : tie.Need-returns-2
+returns-2 c =
+    let end = c .before .before in
+    let at = comma (end .before) in
+    rw (further-some _ _ (there at .if1 .left)) (put-then (at .put-bytes .ensures) (end .put-operand .ensures))
+
+pub put-further-spec : {M : Type 1} → statement M
+put-further-spec =
+    tie.close
+    (tie.spec
+    returns
+    (λ c. search needs)
+    put-bytes-requires
+    put-operand-requires
+    (λ c. search needs)
+    returns-2)

@@ -1,0 +1,37 @@
+-- `source` meets its contract: a case for each family.
+-- Assumes nothing.
+use borrow.Author.Needs.{needs}
+use Rattle.names.proofs.source.Statement.{statement}
+use Rattle.names.proofs.source.Tie as tie
+
+returns : tie.Need-returns
+returns c = rw (c .before .before .before .before .family .given .1, c .before .enum-told .given .1) (c .register .ensures)
+
+returns-2 : tie.Need-returns-2
+returns-2 c = rw (c .before .before .before .before .family .given .1, c .before .enum-told2 .given .1) (c .register2 .ensures)
+
+returns-3 : tie.Need-returns-3
+returns-3 c = rw (c .before .before .before .before .before .family .given .1, c .before .before .enum-told3 .given .1, ← c .before .lanes-of .ensures) (c .register3 .ensures)
+
+returns-4 : tie.Need-returns-4
+returns-4 c = rw (c .before .before .enum-told4 .given .1, ← c .before .half .ensures) (c .register4 .ensures)
+
+pub source-spec : {M : Type 1} → statement M
+source-spec =
+    tie.close
+    (tie.spec
+    (λ c. search needs)
+    (λ c. search needs)
+    (λ c κs. search needs)
+    (λ c. search needs)
+    (λ c κs. search needs)
+    (λ c. search needs)
+    (λ c κs. search needs)
+    (λ c κs. search needs)
+    (λ c. search needs)
+    (λ c κs. search needs)
+    (λ c κs. search needs)
+    returns
+    returns-2
+    returns-3
+    returns-4)

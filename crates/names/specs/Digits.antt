@@ -1,0 +1,27 @@
+-- Numbers in digits: the last digits in a base, and decimal without leading zeros.
+use Prim.Native.Nat.{ℕ, zero, suc, _/_, _%_}
+use mathlib.Core.Bool.{cond}
+use mathlib.Core.List.{List, [], _∷_, _++_}
+use lib.Dec.{ltb}
+use lib.ListN.{getD}
+use Rattle.words.specs.Text.{bytes}
+
+-- the digit of each value
+abbrev pub digits : List ℕ
+digits = bytes "0123456789abcdef"
+
+unfoldable pub digitOf : ℕ → ℕ
+digitOf d = getD digits d 0
+
+-- the last count digits of a number in a base, the highest first
+unfoldable pub digitsIn : ℕ → ℕ → ℕ → List ℕ
+digitsIn base zero n = []
+digitsIn base (suc count) n = digitsIn base count (n / base) ++ digitOf (n % base) ∷ []
+
+-- how many decimal digits a number of 16 bits has
+unfoldable pub decimalWidth : ℕ → ℕ
+decimalWidth n = cond (ltb n 10) 1 (cond (ltb n 100) 2 (cond (ltb n 1000) 3 (cond (ltb n 10000) 4 5)))
+
+-- a number of 16 bits in decimal, without leading zeros
+abbrev pub decimal : ℕ → List ℕ
+decimal n = digitsIn 10 (decimalWidth n) n

@@ -1,0 +1,4 @@
+pub mod Same
+pub mod Parts
+pub mod Put
+pub mod Numbers

@@ -1,0 +1,18 @@
+-- The words of a program: a word of bytes has 32 binary digits, and what stands at a place goes by the refusal alone.
+-- Assumes nothing.
+use Prim.Native.Nat.{ℕ, zero, suc, _*_, _^_, _<_}
+use mathlib.Core.Path.{_≡_, refl}
+use mathlib.Core.List.{List}
+use Rattle.machine.specs.Size.{wordBytes}
+use Rattle.parts.proofs.Numbers.{number-below}
+use Rattle.parts.specs.Number.{AreBytes}
+use Rattle.programs.specs.Word.{wordAt, wordFound}
+
+-- a word is below 2^32
+pub word-lt : (program : List ℕ) (i : ℕ) → AreBytes program → wordAt program i < 2 ^ 32
+word-lt program i h = number-below (i * wordBytes) wordBytes program h
+
+-- with a refusal there is no word, and the place stays
+pub found-refused : (n word at : ℕ) → (n ≡ 0 → ⊥) → wordFound n word at ≡ record { number = n; word = 0; at = at }
+found-refused zero word at h = absurd (h refl)
+found-refused (suc n) word at h = refl

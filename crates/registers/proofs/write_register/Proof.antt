@@ -1,0 +1,54 @@
+-- `write_register` meets its contract: the register's place lies within the file, and what comes back stands between the bytes around it.
+-- Assumes nothing.
+use borrow.Author.Needs.{needs}
+use Prim.Native.Nat.{ℕ, _+_, _-_, _≤_}
+use mathlib.Core.Path.{_≡_, _∙_}
+use mathlib.Core.List.{List}
+use native.Mathlib.Nat.{add-sub-cancel-left}
+use native.Mathlib.Omega.{arith}
+use denote.Ref.{now}
+use lib.ListN.{length, take, drop}
+use borrow.Rule.Slice.PartMut.{putMid}
+use Rattle.parts.proofs.Put.{put-part}
+use Rattle.registers.specs.declared.Kind.{Kind}
+use Rattle.registers.specs.Register.{registerBytes, registerAt, withRegister, padded, InFile}
+use Rattle.registers.proofs.Places.{register-inside, length-register}
+use Rattle.registers.proofs.write_register.Statement.{statement}
+use Rattle.registers.proofs.write_register.Tie as tie
+
+-- the register's bytes given back with others in their place
+put-register : (k : ℕ) (kind : Kind) (r at bytes : ℕ) (file source back : List ℕ) → InFile k kind r file → at ≡ registerAt k kind r → bytes ≡ registerBytes k kind
+    → back ≡ padded (length (take (at + bytes - at) (drop at file))) source
+    → putMid at (at + bytes - at) file back ≡ withRegister k kind r (padded (registerBytes k kind) source) file
+put-register k kind r at bytes file source back h place width is =
+    put-part at (at + bytes) file back (omega arith) ∙ rw (is, add-sub-cancel-left at bytes, place, width, length-register k kind r file h)
+
+-- the register ends within the file
+within : (c : tie.After-register-bytes) → c .before .register-at .result + c .register-bytes .result ≤ length (now (c .before .before .before .before .args .file))
+within c =
+    let s = c .before .before .before .before in
+    rw (c .before .register-at .ensures, c .register-bytes .ensures) (register-inside (s .args .k) (s .args .kind) (s .args .r) (now (s .args .file)) (s .pre .0))
+
+add-end : tie.Need-add-end
+add-end c = omega (arith, within c)
+
+part-write-end : tie.Need-part-write-end
+part-write-end c = within c
+
+returns : tie.Need-returns
+returns c =
+    let w = c .before .before in
+    let s = w .before .before .before .before .before .before in
+    put-register (s .args .k) (s .args .kind) (s .args .r) (w .before .before .before .register-at .result) (w .before .before .register-bytes .result)
+    (now (s .args .file))
+    (now (s .args .source))
+    (w .write .last .0)
+    (s .pre .0)
+    (w .before .before .before .register-at .ensures)
+    (w .before .before .register-bytes .ensures)
+    (w .write .ensures)
+
+pub write-register-spec : {M : Type 1} → statement M
+write-register-spec =
+    tie.close
+    (tie.spec (λ c κs. search needs) (λ c κs. search needs) add-end (λ c. search needs) (λ c. search needs) part-write-end (λ c κs. search needs) (λ c. search needs) returns)

@@ -1,0 +1,31 @@
+-- `is_headed` meets its contract: the mark is compared, then the version.
+-- Assumes nothing.
+use mathlib.Core.Path.{_≡_, sym, _∙_}
+use native.Mathlib.Omega.{arith}
+use borrow.Author.Needs.{needs}
+use borrow.Author.Tests.{not-true, not-false}
+use denote.Ref.{now}
+use lib.Seq.{length-take-le}
+use Rattle.parts.specs.Part.{sameBytes}
+use Rattle.parts.proofs.Same.{same-exactly}
+use Rattle.session.specs.Layout.{mark, markBytes, sessionMark}
+use Rattle.session.proofs.is_headed.Statement.{statement}
+use Rattle.session.proofs.is_headed.Tie as tie
+
+-- the answer of the comparison
+marked : (c : tie.After-same) → c .same .result ≡ sameBytes (sessionMark (now (c .before .before .before .before .args .bytes))) mark
+marked c = same-exactly (c .same .result) _ _ (c .same .ensures .0) (c .same .ensures .1)
+
+slice-aggregate-same : tie.Need-slice-aggregate-same
+slice-aggregate-same c = sym (length-take-le markBytes (now (c .before .before .args .bytes)) (omega arith))
+
+returns : tie.Need-returns
+returns c = rw (sym (marked (c .before)) ∙ not-true _ (c .if1 .taken))
+
+returns-2 : tie.Need-returns-2
+returns-2 c = rw (sym (marked (c .before .before)) ∙ not-false _ (c .before .if1 .left), c .number-at .ensures)
+
+pub is-headed-spec : {M : Type 1} → statement M
+is-headed-spec =
+    tie.close
+    (tie.spec slice-aggregate-same (λ c. search needs) (λ c κs. search needs) returns (λ c κs. search needs) returns-2)

@@ -1,0 +1,48 @@
+-- `show_word` is safe: a text is shorter than the line that it is written to.
+-- Assumes nothing.
+use mathlib.Core.Path.{sym}
+use Prim.Native.Nat.{_≤_}
+use native.Mathlib.Omega.{arith}
+use lib.Seq.{length-take-le}
+use borrow.Author.Needs.{needs}
+use Rattle.names.proofs.Pieces.{mostText}
+use Rattle.names.proofs.Naming.{named-most}
+use Rattle.texts.proofs.show_word.Statement.{statement}
+use Rattle.texts.proofs.show_word.Tie as tie
+
+-- the text fits the line
+short : (c : tie.After-text) → c .text .result .value ≤ mostText
+short c = named-most _ _ _ _ (c .text .ensures)
+
+-- the naming, from where the text is assembled and from where it is shown
+assembled : tie.Need-array-share-prefix-out
+assembled c = omega (arith, short (c .before .before .before .before .before .before .before .before))
+
+shown : tie.Need-array-share-prefix-out-2
+shown c = omega (arith, short (c .before .before .before .before .before .before .before .before .before .before .before .before))
+
+pub show-word-spec : {M : Type 1} → statement M
+show-word-spec =
+    tie.close
+    (tie.spec
+    (λ c. search needs)
+    (λ c κs. search needs)
+    (λ c κs. search needs)
+    (λ c. search needs)
+    (λ c κs. search needs)
+    (λ c. search needs)
+    (λ c κs. search needs)
+    assembled
+    (λ c. sym (length-take-le _ _ (assembled (c .before))))
+    (λ c κs. search needs)
+    (λ c. search needs)
+    (λ c κs. search needs)
+    shown
+    (λ c. sym (length-take-le _ _ (shown (c .before))))
+    (λ c κs. search needs)
+    (λ c. search needs)
+    (λ c κs. search needs)
+    (λ c κs. search needs)
+    (λ c. search needs)
+    (λ c κs. search needs)
+    (λ c. search needs))

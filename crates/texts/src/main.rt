@@ -1,0 +1,147 @@
+// Names words and reads their texts back, and tries texts that no word reads as. Each line of a word has the word, the number that
+// naming answers, and where that is 0 the text and the word that the text assembles to. Each line of a text has the number that
+// assembling answers and the text in brackets.
+use libc::STDOUT_FILENO;
+use machine::Length;
+use machine::refusal;
+use words::ROWS;
+ghost use Prim.Native.Nat.{_<_};
+ghost use Rattle.machine.specs.Size.{sizes};
+
+// Every digit but those of the size.
+const NO_SIZE: u32 = 0xFF3FFFFF;
+
+// How many words of document 01 there are.
+const COUNT: usize = 9;
+
+// They are its session, M12, and two of no row.
+const WORDS: [u32; COUNT] = [
+    0x04002020,
+    0x2E303822,
+    0x45410023,
+    0x04C02020,
+    0x2EB03800,
+    0x45000000,
+    0x6EB03800,
+    0,
+    0xFFFFFFFF,
+];
+
+// The word of a row with a size and every other field at its least, or at its most.
+fn word_of(row: usize, size: u32, most: bool) -> u32
+    requires { ⌜ size < sizes ⌝ }
+{
+    let entry = words::row_at(row);
+    let least = entry.2 | (size << words::place::SIZE);
+    if most {
+        return least | ((0xFFFFFFFF - entry.1) & NO_SIZE);
+    }
+    least
+}
+
+// A word's line.
+fn show_word(word: u32) {
+    let mut out = [0u8; names::LEAST_OUT];
+    let named = names::text(word, &mut out);
+    io::print_hex(STDOUT_FILENO, word as u64, 8);
+    io::write_all(STDOUT_FILENO, b" ");
+    io::print_decimal(STDOUT_FILENO, named.number as u64);
+    if named.number == refusal::DONE {
+        let count = named.value as usize;
+        let read = assembles::assemble(&out[..count]);
+        io::write_all(STDOUT_FILENO, b" ");
+        io::write_all(STDOUT_FILENO, &out[..count]);
+        io::write_all(STDOUT_FILENO, b" ");
+        io::print_hex(STDOUT_FILENO, read.value, 8);
+    }
+    io::write_all(STDOUT_FILENO, b"\n");
+}
+
+// A row's lines: each size, with the other fields at their least and at their most.
+fn show_row(row: usize) {
+    for size in 0..Length::SIZES as u32 {
+        show_word(word_of(row, size, false));
+        show_word(word_of(row, size, true));
+    }
+}
+
+// The lines of all rows.
+fn show_rows() {
+    for row in 0..ROWS {
+        show_row(row);
+    }
+}
+
+// The lines of the paper's words.
+fn show_words() {
+    for i in 0..COUNT {
+        show_word(WORDS[i]);
+    }
+}
+
+// A text's line.
+fn show_text(text: &[u8]) {
+    let read = assembles::assemble(text);
+    io::print_decimal(STDOUT_FILENO, read.number as u64);
+    io::write_all(STDOUT_FILENO, b" [");
+    io::write_all(STDOUT_FILENO, text);
+    io::write_all(STDOUT_FILENO, b"]\n");
+}
+
+// Texts that differ from an accepted one in a byte or two.
+fn show_near_misses() {
+    show_text(b"saddv d0, p0, z1.d");
+    show_text(b"saddv d00, p0, z1.b");
+    show_text(b"saddv d0, p0, z01.b");
+    show_text(b"Saddv d0, p0, z1.b");
+    show_text(b"saddv d0, p0, z1.B");
+    show_text(b"saddv  d0, p0, z1.b");
+    show_text(b"saddv d0,  p0, z1.b");
+    show_text(b"saddv d0 p0, z1.b");
+    show_text(b"saddv d0,p0, z1.b");
+    show_text(b"saddv d0, p8, z1.b");
+    show_text(b"saddv d32, p0, z1.b");
+    show_text(b"saddv d0, p0, z32.b");
+    show_text(b"saddv d0, p0, z100.b");
+    show_text(b"saddv s0, p0, z1.b");
+    show_text(b"saddv d0, p0/m, z1.b");
+    show_text(b"saddv d0, p0, z1");
+    show_text(b"saddv d0, p0, z1.b ");
+    show_text(b" saddv d0, p0, z1.b");
+    show_text(b"saddv d0, p0, z1.b\n");
+    show_text(b"saddv");
+    show_text(b"");
+}
+
+// Texts whose widths or arrangements do not fit.
+fn show_misfits() {
+    show_text(b"addqv v0.8b, p0, z1.b");
+    show_text(b"addqv v0.16b, p0, z1.h");
+    show_text(b"uaddlv s0, v1.8b");
+    show_text(b"uaddlv h0, v1.4b");
+    show_text(b"uaddlv d0, v0.2s");
+    show_text(b"uaddlv q0, v0.2d");
+    show_text(b"sadalp z0.h, p0/m, z1.h");
+    show_text(b"sadalp z0.b, p0/m, z1.b");
+    show_text(b"sadalp z0.h, p0, z1.b");
+    show_text(b"sadalp z0.h, p0/z, z1.b");
+    show_text(b"saddlb z0.h, z1.b, z1.h");
+    show_text(b"saddlb z0.h, z1.h, z1.h");
+    show_text(b"saddlb z0.h, z1.b");
+    show_text(b"saddwb z0.h, z1.h, z1.b");
+}
+
+// A text of 10,000 bytes: its line has the number alone.
+fn show_long() {
+    let text = [b'z'; 10000];
+    io::print_decimal(STDOUT_FILENO, assembles::assemble(&text).number as u64);
+    io::write_all(STDOUT_FILENO, b"\n");
+}
+
+fn main() {
+    show_rows();
+    show_words();
+    show_near_misses();
+    show_misfits();
+    show_long();
+}

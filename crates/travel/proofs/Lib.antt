@@ -1,0 +1,3 @@
+pub mod Walked
+pub mod Demand3
+pub mod Directed

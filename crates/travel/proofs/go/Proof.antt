@@ -1,0 +1,45 @@
+-- `go` meets its contract: what the step back, or the step forward, leaves is what the step in its direction leaves.
+-- Assumes nothing.
+use borrow.Author.Needs.{needs}
+use denote.Ref.{now}
+use Rattle.registers.specs.State.{State, state}
+use Rattle.travel.proofs.Directed.{gone-back, gone-forward}
+use Rattle.travel.proofs.go.Statement.{statement}
+use Rattle.travel.proofs.go.Tie as tie
+
+abbrev start : tie.After-slice-known2 → tie.Start
+start c = c .before .before .before .before
+
+abbrev lent : tie.Start → State
+lent s = state (now (s .args .z)) (now (s .args .p))
+
+abbrev backed : tie.After-slice-known4 → tie.After-back
+backed c = c .before .before .before .before
+
+abbrev stepped : tie.After-slice-known6 → tie.After-step
+stepped c = c .before .before .before .before
+
+returns : tie.Need-returns
+returns c =
+    let t = backed c .before .before .before in
+    let s = start (t .before) in
+    gone-back (s .args .k) (lent s) (now (s .args .program)) (now (s .args .journal)) (s .args .direction) _ _ _ (t .if1 .taken) (backed c .back .ensures)
+
+returns-2 : tie.Need-returns-2
+returns-2 c =
+    let e = stepped c .before .before .before in
+    let s = start (e .before) in
+    gone-forward (s .args .k) (lent s) (now (s .args .program)) (now (s .args .journal)) (s .args .direction) _ _ _ (e .if1 .left) (stepped c .step .ensures)
+
+pub go-spec : {M : Type 1} → statement M
+go-spec =
+    tie.close
+    (tie.spec
+    (λ c κs. search needs)
+    (λ c. search needs)
+    (λ c. search needs)
+    returns
+    (λ c κs. search needs)
+    (λ c. search needs)
+    (λ c. search needs)
+    returns-2)

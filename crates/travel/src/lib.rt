@@ -1,0 +1,75 @@
+// Travel over the same buffers: steps forward and back, one after the other.
+ghost use mathlib.Core.Path.{_≡_};
+ghost use Prim.Native.Nat.{_^_};
+ghost use Rattle.registers.specs.State.{state};
+ghost use Rattle.travel.specs.Travel.{countedFor, Gone, Countable, Made};
+use machine::refusal;
+
+// How many steps of each kind were accepted.
+pub struct Travelled {
+    pub forward: usize,
+    pub back: usize,
+}
+
+// The direction of a step back; all others are forward.
+pub const BACK: u8 = 0;
+
+// Takes a step by its direction.
+fn go(k: usize, z: &mut [u8], p: &[u8], program: &[u8], journal: &mut [u8], direction: u8) -> u8
+    ensures { λ r. ⌜ Gone k (state (now (z .entry)) (now (p .entry))) (now (program .entry)) (now (journal .entry)) direction r
+        (state (now (z .exit)) (now (p .entry)))
+        (now (journal .exit)) ⌝ }
+{
+    if direction == BACK {
+        return journal::back(k, z, p, journal);
+    }
+    journal::step(k, z, p, program, journal)
+}
+
+// Counts a step that was accepted.
+fn counted(made: Travelled, direction: u8, number: u8) -> Travelled
+    requires { ⌜ Countable made (2 ^ 64) ⌝ }
+    ensures { λ r. ⌜ r ≡ countedFor direction number made ⌝ }
+{
+    if number != refusal::DONE {
+        return made;
+    }
+    if direction == BACK {
+        return Travelled {
+            forward: made.forward,
+            back: made.back + 1,
+        };
+    }
+    Travelled {
+        forward: made.forward + 1,
+        back: made.back,
+    }
+}
+
+// Takes steps, one after the other, and answers how many of each kind were accepted.
+pub fn travel(
+    k: usize,
+    z: &mut [u8],
+    p: &[u8],
+    program: &[u8],
+    journal: &mut [u8],
+    directions: &[u8],
+) -> Travelled
+    ensures { λ r. ⌜ Made k (state (now (z .entry)) (now (p .entry))) (now (program .entry)) (now (journal .entry)) (now (directions .entry))
+        (state (now (z .exit)) (now (p .entry)))
+        (now (journal .exit))
+        r ⌝ }
+{
+    let mut made = Travelled {
+        forward: 0,
+        back: 0,
+    };
+    let mut i = 0;
+    while i < directions.len() {
+        let direction = directions[i];
+        let number = go(k, z, p, program, journal, direction);
+        made = counted(made, direction, number);
+        i += 1;
+    }
+    made
+}

@@ -1,0 +1,89 @@
+-- What is printed of a step: how long it is, that it is nothing past the program's end and else the step's line.
+-- Assumes nothing.
+use mathlib.Core.Path.{_≡_, refl, _∙_, ap}
+use mathlib.Core.Bool.{true}
+use mathlib.Core.List.{List, []}
+use Prim.Native.Nat.{ℕ, zero, suc, _*_, _≤_, _<_}
+use native.Mathlib.Nat.{le-refl}
+use native.Mathlib.Omega.{arith}
+use lib.ListN.{length}
+use borrow.Author.Tests.{le-ltb}
+use Rattle.machine.specs.Size.{isProgram}
+use Rattle.machine.specs.Refusal.{DONE, unlessRefused}
+use Rattle.machine.specs.declared.Answer.{Answer}
+use Rattle.machine.proofs.Checks.{legal-least, legal-most}
+use Rattle.machine.proofs.Tests.{unless-refused}
+use Rattle.registers.specs.State.{State, Sized}
+use Rattle.words.specs.Decode.{decoded, numberOf}
+use Rattle.programs.specs.Word.{wordAt, wordsOf}
+use Rattle.names.specs.Digits.{decimalWidth}
+use Rattle.names.specs.Named.{Put}
+use Rattle.journal.specs.Layout.{entryBytes}
+use Rattle.lines.specs.Line.{mostLine, stepLine, lineRefused, LineWritten}
+use Rattle.lines.proofs.Lines.{written-put}
+use Rattle.lines.proofs.Longest.{done-most, step-most}
+use Rattle.lines.proofs.Placed.{placed-right, line-ready, refused-passes, word-decides}
+use Rattle.walks.specs.Output.{printed, lineRate}
+
+-- room enough for a line is as good as more
+line-room : (k : ℕ) (s : State) (program : List ℕ) (position number n : ℕ) → mostLine ≤ n
+    → lineRefused k s program position number n ≡ lineRefused k s program position number mostLine
+unfolding lineRefused
+line-room k s program position number n h = rw (le-ltb _ _ h, le-ltb _ _ (le-refl mostLine))
+
+module _ (k : ℕ) (s : State) (program : List ℕ) (position : ℕ) where
+  -- no longer than the longest line
+  pub printed-most : (number : ℕ) → length (printed k s program position number) ≤ mostLine
+  unfolding printed
+  printed-most number = go (lineRefused k s program position number mostLine) refl
+    where
+      go : (n : ℕ) → lineRefused k s program position number mostLine ≡ n → length (unlessRefused n (stepLine k s program position number) []) ≤ mostLine
+      go zero e =
+          let r = line-ready k s program position mostLine number e in
+          step-most position (omega (arith, r .inside)) k s program number (legal-most k (r .files .legal))
+      go (suc n) e = omega arith
+
+  -- and of an accepted step so many bytes for each of its entry's
+  pub printed-done : length (printed k s program position DONE) ≤ lineRate * entryBytes k
+  unfolding printed decimalWidth
+  printed-done = go (lineRefused k s program position DONE mostLine) refl
+    where
+      go : (n : ℕ) → lineRefused k s program position DONE mostLine ≡ n → length (unlessRefused n (stepLine k s program position DONE) []) ≤ lineRate * entryBytes k
+      go zero e =
+          let r = line-ready k s program position mostLine DONE e in
+          omega (arith, done-most position (omega (arith, r .inside)) k s program, legal-least k (r .files .legal))
+      go (suc n) e = omega arith
+
+  -- at the program's end nothing is printed
+  pub end-silent : (number : ℕ) → wordsOf (length program) ≤ position → printed k s program position number ≡ []
+  unfolding printed
+  end-silent number h =
+      unless-refused (lineRefused k s program position number mostLine) (stepLine k s program position number) []
+      (λ e. omega (arith, line-ready k s program position mostLine number e .below))
+
+  -- before it a step's line is printed, whether the step was refused or had an accepted word
+  module _ (files : Sized k s) (whole : isProgram (length program) ≡ true) (below : position < wordsOf (length program)) where
+    line-printed : (number : ℕ) → lineRefused k s program position number mostLine ≡ DONE → printed k s program position number ≡ stepLine k s program position number
+    unfolding printed
+    line-printed number e = ap (λ (n : ℕ). unlessRefused n (stepLine k s program position number) []) e
+
+    pub refused-printed : (number : ℕ) → (number ≡ DONE → ⊥) → printed k s program position number ≡ stepLine k s program position number
+    refused-printed number h =
+        line-printed number
+        (refused-passes k s program position mostLine number (placed-right k s program position mostLine files whole below (le-refl mostLine)) h)
+
+    pub done-printed : numberOf (decoded (wordAt program position)) ≡ DONE → printed k s program position DONE ≡ stepLine k s program position DONE
+    done-printed accepted =
+        line-printed DONE
+        (word-decides k s program position mostLine DONE (placed-right k s program position mostLine files whole below (le-refl mostLine)) refl
+        (wordAt program position) (decoded (wordAt program position)) refl refl
+        ∙ accepted)
+
+-- a turn writes what is printed
+pub turn-put : (k : ℕ) (s : State) (program : List ℕ) (position number : ℕ) (old new : List ℕ) (r : Answer) → mostLine ≤ length old
+    → LineWritten k s program position number old new r → Put old 0 (printed k s program position number) new (r .value)
+unfolding printed
+turn-put k s program position number old new r h w =
+    written-put (lineRefused k s program position number mostLine) (stepLine k s program position number) old new r
+    (rw (line-room k s program position number (length old) h) at w)
+    (omega (arith, printed-most k s program position number))

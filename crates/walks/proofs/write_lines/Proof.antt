@@ -1,0 +1,104 @@
+-- `write_lines` meets its contract. The invariant: what is left of the journal has room in the output for its lines, and whatever writes
+-- the lines of the rest from here on has then written all. The measure is how many words are left.
+-- Assumes nothing.
+use mathlib.Core.Path.{_≡_, refl}
+use mathlib.Core.List.{List}
+use Prim.Native.Nat.{ℕ, suc, _+_, _-_, _≤_, _<_}
+use native.Mathlib.Omega.{arith}
+use denote.Ref.{now}
+use lib.ListN.{length}
+use borrow.Author.Needs.{needs}
+use Rattle.machine.specs.Size.{mostWords}
+use Rattle.registers.specs.State.{state}
+use Rattle.names.specs.Named.{Put}
+use Rattle.names.proofs.Puts.{put-then, put-none}
+use Rattle.walks.specs.Output.{linesFrom, linesMost}
+use Rattle.walks.proofs.Outputs.{lines-more, lines-end, lines-none, turn-room}
+use Rattle.walks.proofs.write_lines.Statement.{statement}
+use Rattle.walks.proofs.write_lines.Tie as tie
+
+abbrev Inv-loop : tie.InvT-loop
+Inv-loop out₀ k z₀ p program journal₀ at₀ position₀ out z journal at position =
+    (position ≤ mostWords)
+    × (at + linesMost k journal ≤ length out₀)
+    × (length out ≡ length out₀)
+    × (length z ≡ length z₀)
+    × (length journal ≡ length journal₀)
+    × ((m : List ℕ) (r : ℕ) → Put out at (linesFrom (mostWords - position) k program position (state z p) journal) m r
+    → Put out₀ 0 (linesFrom mostWords k program 0 (state z₀ p) journal₀) m r)
+
+abbrev μ-loop : tie.MeasureT-loop
+μ-loop out₀ k z₀ p program journal₀ at₀ position₀ out z journal at position = mostWords - position
+
+-- the loop's place from that of its turn, and where the function started
+abbrev loop : tie.After-step-line Inv-loop μ-loop → tie.At-loop Inv-loop μ-loop
+loop c = c .before .before .before .before .before
+
+abbrev start : tie.After-step-line Inv-loop μ-loop → tie.Start Inv-loop μ-loop
+start c = loop c .before .before .before .before .before .before
+
+-- a word is left
+left : (position : ℕ) → position < mostWords → mostWords - position ≡ suc (mostWords - (position + 1))
+left position h = omega arith
+
+loop-holds : tie.Need-loop-holds Inv-loop μ-loop
+loop-holds c = (omega arith, omega arith, refl, refl, refl, λ m r h. h)
+
+returns : tie.Need-returns Inv-loop μ-loop
+returns c =
+    let t = c .before .before .before .before .before .before .before .before in
+    let l = loop t .loop in
+    let a = start t .args in
+    let turn = t .step-line .ensures in
+    l .inv .5 _ _
+    (rw (
+      left (l .position) (t .before .before .before .before .loop-test .taken),
+      lines-end _ (a .k) (now (a .program)) (l .position) (state (l .z) (now (a .p))) _ (l .journal) _ _ (turn .stepped) (c .if1 .taken),
+    )
+    (turn .shown))
+
+loop-again : tie.Need-loop-again Inv-loop μ-loop
+loop-again c =
+    let t = c .before .before .before .before .before .before .before .before in
+    let l = loop t .loop in
+    let a = start t .args in
+    let turn = t .step-line .ensures in
+    let files = state (l .z) (now (a .p)) in (
+      omega arith,
+      omega (arith, turn .shown .after, turn-room 0 (a .k) (now (a .program)) (l .position) files _ (l .journal) _ _ (turn .stepped) (c .if1 .left)),
+      search needs,
+      search needs,
+      search needs,
+      λ m r h. l .inv .5 m r
+          (rw (
+            left (l .position) (t .before .before .before .before .loop-test .taken),
+            lines-more _ (a .k) (now (a .program)) (l .position) files _ (l .journal) _ _ (turn .stepped) (c .if1 .left),
+          )
+          (put-then (turn .shown) h)),
+    )
+
+returns-2 : tie.Need-returns-2 Inv-loop μ-loop
+returns-2 c =
+    let l = c .before .loop in
+    let none : mostWords - l .position ≡ 0 = omega arith in
+    l .inv .5 _ _ (rw (none, lines-none) (put-none (l .out) (l .at)))
+
+pub write-lines-spec : {M : Type 1} → statement M
+write-lines-spec =
+    tie.close
+    (tie.spec
+    Inv-loop
+    μ-loop
+    loop-holds
+    (λ c κs. omega arith)
+    (λ c. search needs)
+    (λ c. search needs)
+    (λ c. search needs)
+    returns
+    (λ c. omega arith)
+    (λ c. omega arith)
+    loop-again
+    (λ c. c .before .loop .inv .2)
+    (λ c. c .before .loop .inv .3)
+    (λ c. c .before .loop .inv .4)
+    returns-2)

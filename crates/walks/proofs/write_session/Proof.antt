@@ -1,0 +1,35 @@
+-- `write_session` meets its contract: the parts lie in the bytes, and the walk over them is the session's.
+-- Assumes nothing.
+use native.Mathlib.Omega.{arith}
+use denote.Ref.{now}
+use borrow.Author.Needs.{needs}
+use Rattle.session.specs.Layout.{Parts}
+use Rattle.session.proofs.Reading.{session-parts}
+use Rattle.walks.proofs.write_session.Statement.{statement}
+use Rattle.walks.proofs.write_session.Tie as tie
+
+-- the session's parts
+parts : (c : tie.Start) → Parts (now (c .args .bytes)) (c .args .session)
+parts c = session-parts (now (c .args .bytes)) (c .args .session) (c .pre .reading) (c .pre .done)
+
+write-walk-requires : tie.Need-write-walk-requires
+write-walk-requires c κs =
+    let s = c .before .before .before .before .before .before in
+    record { files = parts s .files; room = s .pre .room }
+
+pub write-session-spec : {M : Type 1} → statement M
+write-session-spec =
+    tie.close
+    (tie.spec
+    (λ c. omega (arith, parts (c .before .before .before)))
+    (λ c. omega (arith, parts (c .before .before .before)))
+    (λ c. omega (arith, parts (c .before .before .before)))
+    (λ c. omega (arith, parts (c .before .before .before .before)))
+    (λ c. omega (arith, parts (c .before .before .before .before)))
+    (λ c. omega (arith, parts (c .before .before .before .before)))
+    (λ c. omega (arith, parts (c .before .before .before .before .before)))
+    (λ c. omega (arith, parts (c .before .before .before .before .before)))
+    (λ c. omega (arith, parts (c .before .before .before .before .before)))
+    write-walk-requires
+    (λ c. search needs)
+    (λ c. search needs))

@@ -1,0 +1,63 @@
+-- `write_walk` meets its contract: the file's copy is the file, and the journal is fresh.
+-- Assumes nothing.
+use mathlib.Core.Path.{_≡_, sym, _∙_, ap}
+use native.Mathlib.Nat.{min-le-right}
+use native.Mathlib.Omega.{arith}
+use denote.Ref.{now}
+use lib.ListN.{length, length-take, take}
+use borrow.Author.Needs.{needs}
+use Rattle.machine.proofs.Checks.{legal-most}
+use Rattle.walks.specs.Output.{walkJournal}
+use Rattle.walks.proofs.Outputs.{copied-is, fresh-is}
+use Rattle.walks.proofs.write_walk.Statement.{statement}
+use Rattle.walks.proofs.write_walk.Tie as tie
+
+-- where the function started, from the fresh journal and from the copy
+abbrev start : tie.After-fresh → tie.Start
+start c = c .before .before .before .before .before .before .before
+
+abbrev first : tie.After-copy → tie.Start
+first c = start (c .before .before .before .before)
+
+-- the fresh journal, the copy of the vector file, and its size
+made : (c : tie.After-fresh) → c .fresh .last .1 .0 ≡ walkJournal (start c .args .k)
+made c = c .fresh .ensures .bytes ∙ fresh-is (start c .args .k) (c .before .before .journal-room .result) (start c .pre .files .legal) (c .before .before .journal-room .ensures)
+
+copied : (c : tie.After-copy) → take (c .copy .result) (c .copy .last .1 .0) ≡ now (first c .args .z)
+copied c =
+    copied-is (now (first c .args .z)) (c .before .before .file-room .result) (c .copy .last .1 .0) (c .copy .result) (c .copy .ensures .0) (c .copy .ensures .1)
+
+sized : (c : tie.After-copy) → c .copy .result ≡ length (take (c .copy .result) (c .copy .last .1 .0))
+sized c = c .copy .ensures .0 ∙ sym (ap length (copied c))
+
+copy-requires : tie.Need-copy-requires
+copy-requires c κs =
+    let s = start (c .before .before .before) in
+    omega (arith, c .before .file-room .ensures, s .pre .files .vectorSize, legal-most (s .args .k) (s .pre .files .legal))
+
+array-borrow-prefix-file : tie.Need-array-borrow-prefix-file
+array-borrow-prefix-file c =
+    let f = c .before .before .copy in
+    omega (arith, sized (c .before .before), length-take (f .result) (f .last .1 .0), min-le-right (f .result) (length (f .last .1 .0)))
+
+returns : tie.Need-returns
+returns c =
+    let copy = c .before .before .before .before .before .before .before .before .before in
+    rw (made (copy .before .before .before .before), copied copy) at (c .before .before .before .before .write-lines .ensures)
+
+pub write-walk-spec : {M : Type 1} → statement M
+write-walk-spec =
+    tie.close
+    (tie.spec
+    (λ c κs. search needs)
+    (λ c. search needs)
+    (λ c κs. search needs)
+    (λ c κs. search needs)
+    (λ c. search needs)
+    copy-requires
+    array-borrow-prefix-file
+    (λ c. sized (c .before .before .before))
+    (λ c. search needs)
+    (λ c κs. search needs)
+    (λ c. search needs)
+    returns)

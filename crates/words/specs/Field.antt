@@ -1,0 +1,61 @@
+-- The fields of a word: the lowest digit of each, and how many digits it has. A field of no digits is 0.
+use mathlib.Core.Path.{_≡_}
+use Prim.Native.Nat.{ℕ, _<_}
+use Rattle.words.specs.Digits.{wordDigits}
+use Rattle.words.specs.declared.Family.{Family}
+use Rattle.words.specs.declared.Family.the-variants.{Low, Wide}
+use Rattle.words.specs.declared.LowFamily.the-variants.{Reduction, Segment, Long}
+use Rattle.words.specs.declared.WideFamily.the-variants.{Pairwise, Widening}
+
+-- the lowest digit: size, source, destination, governing predicate, second source, Q
+abbrev pub sizePlace : ℕ
+sizePlace = 22
+
+abbrev pub sourcePlace : ℕ
+sourcePlace = 5
+
+abbrev pub destinationPlace : ℕ
+destinationPlace = 0
+
+abbrev pub governingPlace : ℕ
+governingPlace = 10
+
+abbrev pub secondPlace : ℕ
+secondPlace = 16
+
+abbrev pub qPlace : ℕ
+qPlace = 30
+
+-- the digits of the size, of a register's number, and of a governing predicate's
+abbrev pub sizeDigits : ℕ
+sizeDigits = 2
+
+abbrev pub registerDigits : ℕ
+registerDigits = 5
+
+abbrev pub predicateDigits : ℕ
+predicateDigits = 3
+
+-- by family: the digits of the governing predicate, of the second source, and of Q
+abbrev pub governingDigits : Family → ℕ
+governingDigits (Low Reduction) = predicateDigits
+governingDigits (Low Segment) = predicateDigits
+governingDigits (Low Long) = 0
+governingDigits (Wide Pairwise) = predicateDigits
+governingDigits (Wide Widening) = 0
+
+abbrev pub secondDigits : Family → ℕ
+secondDigits (Low low) = 0
+secondDigits (Wide Pairwise) = 0
+secondDigits (Wide Widening) = registerDigits
+
+abbrev pub qDigits : Family → ℕ
+qDigits (Low Reduction) = 0
+qDigits (Low Segment) = 0
+qDigits (Low Long) = 1
+qDigits (Wide wide) = 0
+
+-- a number of digits, fewer than a word has
+pub record Counted (n r : ℕ) : Type 0 where
+  pub is : r ≡ n
+  pub small : r < wordDigits
