@@ -8,16 +8,16 @@ use lib.ListN.{length, length-append, drop, getD}
 use lib.Seq.{drop-cons}
 use Rattle.names.specs.Digits.{digitsIn}
 use Rattle.names.proofs.Decimals.{digits-length}
-use Rattle.lines.specs.Line.{sixteen, byteDigits, hexOf}
+use Rattle.lines.specs.Line.{sixteen, byteHexDigits, hexOf}
 
-pub hex-length : (l : List ℕ) → length (hexOf l) ≡ byteDigits * length l
+pub hex-length : (l : List ℕ) → length (hexOf l) ≡ byteHexDigits * length l
 unfolding hexOf
 hex-length [] = refl
-hex-length (b ∷ l) = rw length-append (omega (arith, hex-length l, digits-length sixteen byteDigits b))
+hex-length (b ∷ l) = rw length-append (omega (arith, hex-length l, digits-length sixteen byteHexDigits b))
 
 -- the byte before a place in hex, after those from the place on
 pub hex-next : (l : List ℕ) (i : ℕ) → 0 < i → i ≤ length l
-    → hexOf (drop (i - 1) l) ≡ hexOf (drop i l) ++ digitsIn sixteen byteDigits (getD l (i - 1) 0)
+    → hexOf (drop (i - 1) l) ≡ hexOf (drop i l) ++ digitsIn sixteen byteHexDigits (getD l (i - 1) 0)
 unfolding hexOf
 hex-next l zero h k = absurd (omega arith)
 hex-next l (suc j) h k =

@@ -21,10 +21,10 @@ use Rattle.words.specs.declared.Decoded.the-variants.{Unknown, Undefined, Word}
 use Rattle.names.specs.Named.{leastOut, textOfDecoded, textOfWord, nameRefused, Named, Put}
 use Rattle.names.proofs.Pieces.{word-length}
 use Rattle.parts.specs.Part.{laid}
-use Rattle.lines.specs.Line.{ended, lineTests, lineRefused, Written}
+use Rattle.lines.specs.Line.{withNewline, lineTests, lineRefused, Written}
 
 -- a field with its newline
-pub ended-length : (field : List ℕ) → length (ended field) ≡ length field + 1
+pub ended-length : (field : List ℕ) → length (withNewline field) ≡ length field + 1
 ended-length field = length-append field (10 ∷ [])
 
 -- the tests of a line are in the paper's order

@@ -15,41 +15,41 @@ use Rattle.programs.specs.declared.Next.{Next}
 use Rattle.words.specs.Decode.{decoded, wordTests, fieldsOf}
 use Rattle.words.specs.Text.{bytes}
 use Rattle.names.specs.Digits.{digitsIn, decimal, decimalWidth}
-use Rattle.names.specs.Named.{textOfWord}
+use Rattle.names.specs.Named.{textOfWord, mostText}
 
 -- the base of hex, and the hex digits of a byte and of a word
 abbrev pub sixteen : ℕ
 sixteen = 16
 
-abbrev pub byteDigits : ℕ
-byteDigits = 2
+abbrev pub byteHexDigits : ℕ
+byteHexDigits = 2
 
-abbrev pub wordDigits : ℕ
-wordDigits = 8
+abbrev pub wordHexDigits : ℕ
+wordHexDigits = 8
 
 -- bytes in hex, the last byte, which is the highest, first
 unfoldable pub hexOf : List ℕ → List ℕ
 hexOf [] = []
-hexOf (b ∷ bs) = hexOf bs ++ digitsIn sixteen byteDigits b
+hexOf (b ∷ bs) = hexOf bs ++ digitsIn sixteen byteHexDigits b
 
 -- a field of a line has a space after it, and the last of a line a newline
-abbrev pub spaced : List ℕ → List ℕ
-spaced field = field ++ bytes " "
+abbrev pub withSpace : List ℕ → List ℕ
+withSpace field = field ++ bytes " "
 
-abbrev pub ended : List ℕ → List ℕ
-ended field = field ++ 10 ∷ []
+abbrev pub withNewline : List ℕ → List ℕ
+withNewline field = field ++ 10 ∷ []
 
 -- what a line starts with: the position and the answer number
 abbrev pub lead : ℕ → ℕ → List ℕ
-lead position number = spaced (decimal position) ++ spaced (decimal number)
+lead position number = withSpace (decimal position) ++ withSpace (decimal number)
 
 -- the line of a refused step: the word follows
 abbrev pub refusedLine : ℕ → ℕ → ℕ → List ℕ
-refusedLine position number word = lead position number ++ ended (digitsIn sixteen wordDigits word)
+refusedLine position number word = lead position number ++ withNewline (digitsIn sixteen wordHexDigits word)
 
 -- the line of an accepted step: the word's text and the register follow
 abbrev pub acceptedLine : ℕ → ℕ → List ℕ → List ℕ
-acceptedLine position word register = lead position DONE ++ spaced (textOfWord word) ++ ended (hexOf register)
+acceptedLine position word register = lead position DONE ++ withSpace (textOfWord word) ++ withNewline (hexOf register)
 
 -- the destination register of a word
 abbrev pub destinationOf : ℕ → ℕ → State → List ℕ
@@ -63,15 +63,11 @@ stepLine k s program position number =
 
 -- the line of a session that is refused
 unfoldable pub sessionLine : List ℕ
-sessionLine = ended (decimal SESSION)
-
--- the bytes of the longest text of a word
-abbrev pub mostText : ℕ
-mostText = 26
+sessionLine = withNewline (decimal SESSION)
 
 -- the bytes of an accepted step's line that shows a register of n bytes, at most: position, number, text and register, with a byte after each
 abbrev pub lineBytes : ℕ → ℕ
-lineBytes n = (decimalWidth mostWords + 1) + (decimalWidth DONE + 1) + (mostText + 1) + (byteDigits * n + 1)
+lineBytes n = (decimalWidth mostWords + 1) + (decimalWidth DONE + 1) + (mostText + 1) + (byteHexDigits * n + 1)
 
 -- the bytes of the longest line: that of the longest register
 abbrev pub mostLine : ℕ

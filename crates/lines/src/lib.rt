@@ -14,7 +14,7 @@ ghost use Rattle.machine.specs.Refusal.{DONE};
 ghost use Rattle.registers.specs.State.{state};
 ghost use Rattle.names.specs.Digits.{digitsIn, decimal};
 ghost use Rattle.names.specs.Named.{leastOut, textOfWord, Put};
-ghost use Rattle.lines.specs.Line.{sixteen, wordDigits, hexOf, spaced, ended, lead, refusedLine, acceptedLine, askedWord, LineWritten, SessionLineWritten};
+ghost use Rattle.lines.specs.Line.{sixteen, wordHexDigits, hexOf, withSpace, withNewline, lead, refusedLine, acceptedLine, askedWord, LineWritten, SessionLineWritten};
 
 // The base of hex, and the hex digits of a byte and of a word.
 const SIXTEEN: usize = 16;
@@ -28,13 +28,10 @@ const POSITION_DIGITS: usize = 3;
 
 const DONE_DIGITS: usize = 1;
 
-// The bytes of the longest text of a word.
-const MOST_TEXT: usize = 26;
-
 // The bytes of the longest line: position, number, text and register, with a byte after each.
 pub const MOST_LINE: usize = (POSITION_DIGITS + 1)
     + (DONE_DIGITS + 1)
-    + (MOST_TEXT + 1)
+    + (names::MOST_TEXT + 1)
     + (BYTE_DIGITS * Length::MOST_BYTES + 1);
 
 // Writes a number in decimal from a place on, and a byte after it.
@@ -72,7 +69,7 @@ fn put_hex(out: &mut [u8], at: usize, bytes: &[u8]) -> usize
 // Writes a word's text from a place on, and a space; a word that is not accepted has no text.
 fn put_text(out: &mut [u8], at: usize, word: u32) -> usize
     requires { ⌜ at + leastOut ≤ length (now out) ⌝ }
-    ensures { λ r. ⌜ Put (now (out .entry)) at (spaced (textOfWord word)) (now (out .exit)) r ⌝ }
+    ensures { λ r. ⌜ Put (now (out .entry)) at (withSpace (textOfWord word)) (now (out .exit)) r ⌝ }
 {
     let end = at + names::text(word, &mut out[at..]).value as usize;
     digits::put(out, end, b' ')
@@ -80,8 +77,8 @@ fn put_text(out: &mut [u8], at: usize, word: u32) -> usize
 
 // Writes a register in hex from a place on, and a newline.
 fn put_register(out: &mut [u8], at: usize, register: &[u8]) -> usize
-    requires { ⌜ at + length (ended (hexOf (now register))) ≤ length (now out) ⌝ }
-    ensures { λ r. ⌜ Put (now (out .entry)) at (ended (hexOf (now (register .entry)))) (now (out .exit)) r ⌝ }
+    requires { ⌜ at + length (withNewline (hexOf (now register))) ≤ length (now out) ⌝ }
+    ensures { λ r. ⌜ Put (now (out .entry)) at (withNewline (hexOf (now (register .entry)))) (now (out .exit)) r ⌝ }
 {
     let end = put_hex(out, at, register);
     digits::put(out, end, b'\n')
@@ -89,8 +86,8 @@ fn put_register(out: &mut [u8], at: usize, register: &[u8]) -> usize
 
 // Writes a word in hex from a place on, and a newline.
 fn put_word(out: &mut [u8], at: usize, word: u32) -> usize
-    requires { ⌜ at + length (ended (digitsIn sixteen wordDigits word)) ≤ length (now out) ⌝ }
-    ensures { λ r. ⌜ Put (now (out .entry)) at (ended (digitsIn sixteen wordDigits word)) (now (out .exit)) r ⌝ }
+    requires { ⌜ at + length (withNewline (digitsIn sixteen wordHexDigits word)) ≤ length (now out) ⌝ }
+    ensures { λ r. ⌜ Put (now (out .entry)) at (withNewline (digitsIn sixteen wordHexDigits word)) (now (out .exit)) r ⌝ }
 {
     let end = digits::put_digits(out, at, SIXTEEN, WORD_DIGITS, word as usize);
     digits::put(out, end, b'\n')

@@ -20,8 +20,8 @@ use Rattle.words.specs.declared.Fields.{Fields}
 use Rattle.words.specs.declared.Decoded.{Decoded}
 use Rattle.words.specs.declared.Decoded.the-variants.{Unknown, Undefined, Word}
 use Rattle.names.specs.Text.{textOf}
-use Rattle.names.specs.Named.{leastOut, textOfWord, nameTests, nameRefused, refusedWith, Named, Put}
-use Rattle.names.proofs.Pieces.{mostText, word-length}
+use Rattle.names.specs.Named.{leastOut, textOfWord, nameTests, nameRefused, refusedWith, Named, Put, mostText}
+use Rattle.names.proofs.Pieces.{word-length}
 
 -- two results that the contract of `text` allows are the same
 pub text-determined : (word : ℕ) (old new new′ : List ℕ) (r r′ : Answer) → Named word old new r → Named word old new′ r′ → (r ≡ r′) × (new ≡ new′)

@@ -29,7 +29,7 @@ use Rattle.words.proofs.Every.{every, at-each}
 use Rattle.names.specs.declared.Operand.{Operand}
 use Rattle.names.specs.Digits.{digitOf, digitsIn, decimalWidth, decimal}
 use Rattle.names.specs.Text.{keyOf, nameOf, letterOf, lanesOf, operandText, whereIn, further, following, listed, destinationOperand, governingOperand, sourceOperand, operandsNamed, textOf}
-use Rattle.names.specs.Named.{leastOut, textOfDecoded, textOfWord}
+use Rattle.names.specs.Named.{leastOut, mostText, textOfDecoded, textOfWord}
 use Rattle.names.proofs.Puts.{room-first}
 use Rattle.names.proofs.Keys.{row-good}
 use Rattle.names.proofs.Decimals.{decimal-short}
@@ -70,10 +70,6 @@ text-pieces f =
     (following-where (governingDigits family) p (n ∷ whereIn (secondDigits family) m [])
     ∙ ap (λ (l : List ℕ). further (governingDigits family) p ++ (further registerDigits n ++ l)) (following-where (secondDigits family) m []))
     ∙ regroup front (operandText o) (further (governingDigits family) p) (further registerDigits n) (further (secondDigits family) m)
-
--- the bytes of a text, at most
-abbrev pub mostText : ℕ
-mostText = 26
 
 -- counts of lanes and registers' numbers have two digits at most
 lanesShort : ℕ → ℕ → Bool

@@ -26,6 +26,10 @@ textOfDecoded (Word f) = textOf f
 abbrev pub textOfWord : ℕ → List ℕ
 textOfWord word = textOfDecoded (decoded word)
 
+-- the bytes of the longest text
+abbrev pub mostText : ℕ
+mostText = 26
+
 -- the tests of naming a word into n bytes: of the output's length, and of the word
 abbrev pub nameTests : ℕ → ℕ → List Test
 nameTests n word = outTest (ltb n leastOut) ∷ wordTests (decoded word)

@@ -43,6 +43,9 @@ pub struct Operand {
 // The letters of the sizes.
 const LETTERS: [u8; Length::SIZES] = *b"bhsd";
 
+// The bytes of the longest text.
+pub const MOST_TEXT: usize = 26;
+
 // The least output that naming takes.
 pub const LEAST_OUT: usize = 32;
 

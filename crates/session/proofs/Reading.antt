@@ -17,7 +17,7 @@ use Rattle.machine.specs.Refusal.{DONE, SESSION, inOrder, refused, filesTests, 
 use Rattle.machine.proofs.Checks.{legal-least, legal-most}
 use Rattle.machine.proofs.Tests.{one-result}
 use Rattle.session.specs.declared.Session.{Session}
-use Rattle.session.specs.Layout.{mark, version, sessionMark, sessionVersion, sessionLength, wordCount, sessionHeader, predicatesAt, programAt, endAt, mostSession, isHeaded, isSized, isSession, sessionTests, placed, sessionOf, vectorPart, predicatePart, programPart, IsSession, Parts}
+use Rattle.session.specs.Layout.{mark, sessionFormat, sessionMark, sessionVersion, sessionLength, wordCount, sessionHeader, predicatesAt, programAt, endAt, mostSession, isHeaded, isSized, isSession, sessionTests, placed, sessionOf, vectorPart, predicatePart, programPart, IsSession, Parts}
 
 -- the one test is in order
 pub session-in-order : (bytes : List ℕ) → inOrder (sessionTests bytes) ≡ true
@@ -46,7 +46,7 @@ tested bytes e =
     let headed = both-left (isHeaded bytes) sizes rest in
     let s = sized (sessionLength bytes) (wordCount bytes) (length bytes) (both-right (isHeaded bytes) sizes rest) in
     record {
-      marked = same-true _ _ (both-left _ (eqb (sessionVersion bytes) version) headed);
+      marked = same-true _ _ (both-left _ (eqb (sessionVersion bytes) sessionFormat) headed);
       versioned = eqb-true _ _ (both-right (sameBytes (sessionMark bytes) mark) _ headed);
       least = legal-least _ (s .legal);
       most = legal-most _ (s .legal);

@@ -15,8 +15,8 @@ use Rattle.session.specs.declared.Session.{Session}
 abbrev pub mark : List ℕ
 mark = 76 ∷ 78 ∷ 87 ∷ []
 
-abbrev pub version : ℕ
-version = 1
+abbrev pub sessionFormat : ℕ
+sessionFormat = 1
 
 -- the bytes of the mark, of the version, of k and of the count
 abbrev pub markBytes : ℕ
@@ -28,8 +28,8 @@ versionBytes = 2
 abbrev pub lengthBytes : ℕ
 lengthBytes = 1
 
-abbrev pub countBytes : ℕ
-countBytes = 2
+abbrev pub wordCountBytes : ℕ
+wordCountBytes = 2
 
 -- where the version, k and the count stand, and the bytes before the vector file
 abbrev pub versionAt : ℕ
@@ -38,11 +38,11 @@ versionAt = markBytes
 abbrev pub lengthAt : ℕ
 lengthAt = versionAt + versionBytes
 
-abbrev pub countAt : ℕ
-countAt = lengthAt + lengthBytes
+abbrev pub wordCountAt : ℕ
+wordCountAt = lengthAt + lengthBytes
 
 abbrev pub sessionHeader : ℕ
-sessionHeader = countAt + countBytes
+sessionHeader = wordCountAt + wordCountBytes
 
 -- the mark, the version, k and the count that the header gives
 abbrev pub sessionMark : List ℕ → List ℕ
@@ -55,7 +55,7 @@ abbrev pub sessionLength : List ℕ → ℕ
 sessionLength bytes = numberAt lengthAt lengthBytes bytes
 
 abbrev pub wordCount : List ℕ → ℕ
-wordCount bytes = numberAt countAt countBytes bytes
+wordCount bytes = numberAt wordCountAt wordCountBytes bytes
 
 -- where the predicate file and the words start, and where the words end
 abbrev pub predicatesAt : ℕ → ℕ
@@ -73,7 +73,7 @@ mostSession = endAt mostLength mostWords
 
 -- the mark and the version are right
 abbrev pub isHeaded : List ℕ → Bool
-isHeaded bytes = both (sameBytes (sessionMark bytes) mark) (eqb (sessionVersion bytes) version)
+isHeaded bytes = both (sameBytes (sessionMark bytes) mark) (eqb (sessionVersion bytes) sessionFormat)
 
 -- k is legal, the words are not too many, and a session of both has n bytes
 abbrev pub isSized : ℕ → ℕ → ℕ → Bool
@@ -125,7 +125,7 @@ programPart s bytes = part (s .program) (s .end - s .program) bytes
 -- bytes that are a session, in the paper's words
 pub record IsSession (bytes : List ℕ) : Type 0 where
   pub marked : sessionMark bytes ≡ mark
-  pub versioned : sessionVersion bytes ≡ version
+  pub versioned : sessionVersion bytes ≡ sessionFormat
   pub least : leastLength ≤ sessionLength bytes
   pub most : sessionLength bytes ≤ mostLength
   pub few : wordCount bytes ≤ mostWords

@@ -5,7 +5,7 @@ use mathlib.Core.Bool.{true, false}
 use Prim.Native.Nat.{ℕ, _≤_}
 use native.Mathlib.Omega.{arith}
 use lib.Seq.{length-take-le}
-use Rattle.names.proofs.Pieces.{mostText}
+use Rattle.names.specs.Named.{mostText}
 use Rattle.names.proofs.Naming.{named-most}
 use Rattle.assembles.specs.Reading.{fieldsFrom, wordOf}
 use Rattle.assembles.proofs.Assembling.{assembled-done, assembled-none, checked, unchecked, word-below}

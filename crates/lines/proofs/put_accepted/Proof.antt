@@ -8,7 +8,7 @@ use borrow.Author.Needs.{needs}
 use Rattle.machine.specs.Refusal.{DONE}
 use Rattle.names.specs.Named.{textOfWord, Put}
 use Rattle.names.proofs.Puts.{put-then, put-length}
-use Rattle.lines.specs.Line.{lead, spaced, ended, hexOf}
+use Rattle.lines.specs.Line.{lead, withSpace, withNewline, hexOf}
 use Rattle.lines.proofs.put_accepted.Statement.{statement}
 use Rattle.lines.proofs.put_accepted.Tie as tie
 
@@ -18,7 +18,7 @@ start c = c .before .before .before .before .before .before .before .before
 
 -- the lead and the text are written
 texted : (c : tie.After-put-text) → let a = start c .args in
-    Put (now (a .out)) 0 (lead (a .position) DONE ++ spaced (textOfWord (a .word))) (c .put-text .last .0) (c .put-text .result)
+    Put (now (a .out)) 0 (lead (a .position) DONE ++ withSpace (textOfWord (a .word))) (c .put-text .last .0) (c .put-text .result)
 texted c = put-then (c .before .before .before .before .put-lead .ensures) (c .put-text .ensures)
 
 put-register-requires : tie.Need-put-register-requires
@@ -27,7 +27,7 @@ put-register-requires c κs =
     let a = start t .args in
     omega (
       arith,
-      length-append (lead (a .position) DONE ++ spaced (textOfWord (a .word))) (ended (hexOf (now (a .register)))),
+      length-append (lead (a .position) DONE ++ withSpace (textOfWord (a .word))) (withNewline (hexOf (now (a .register)))),
       texted t .after,
       put-length (texted t),
     )

@@ -5,21 +5,21 @@ use lib.ListN.{length-append}
 use borrow.Author.Needs.{needs}
 use Rattle.names.specs.Digits.{decimal}
 use Rattle.names.proofs.Puts.{put-then, put-length}
-use Rattle.lines.specs.Line.{spaced}
+use Rattle.lines.specs.Line.{withSpace}
 use Rattle.lines.proofs.put_lead.Statement.{statement}
 use Rattle.lines.proofs.put_lead.Tie as tie
 
 put-field-requires : tie.Need-put-field-requires
 put-field-requires c κs =
     let a = c .before .before .args in
-    omega (arith, length-append (spaced (decimal (a .position))) (spaced (decimal (a .number))))
+    omega (arith, length-append (withSpace (decimal (a .position))) (withSpace (decimal (a .number))))
 
 put-field-requires-2 : tie.Need-put-field-requires-2
 put-field-requires-2 c κs =
     let a = c .before .before .before .before .before .before .args in
     omega (
       arith,
-      length-append (spaced (decimal (a .position))) (spaced (decimal (a .number))),
+      length-append (withSpace (decimal (a .position))) (withSpace (decimal (a .number))),
       put-length (c .before .before .before .put-field .ensures),
     )
 

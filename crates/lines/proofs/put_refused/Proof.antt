@@ -7,14 +7,14 @@ use lib.ListN.{length, length-append}
 use borrow.Author.Needs.{needs}
 use Rattle.names.specs.Digits.{digitsIn}
 use Rattle.names.proofs.Puts.{put-then, put-length}
-use Rattle.lines.specs.Line.{sixteen, wordDigits, lead, ended, refusedLine}
+use Rattle.lines.specs.Line.{sixteen, wordHexDigits, lead, withNewline, refusedLine}
 use Rattle.lines.proofs.put_refused.Statement.{statement}
 use Rattle.lines.proofs.put_refused.Tie as tie
 
 -- the bytes of both pieces
 both : (c : tie.Start) → let a = c .args in
-    length (refusedLine (a .position) (a .number) (a .word)) ≡ length (lead (a .position) (a .number)) + length (ended (digitsIn sixteen wordDigits (a .word)))
-both c = length-append (lead (c .args .position) (c .args .number)) (ended (digitsIn sixteen wordDigits (c .args .word)))
+    length (refusedLine (a .position) (a .number) (a .word)) ≡ length (lead (a .position) (a .number)) + length (withNewline (digitsIn sixteen wordHexDigits (a .word)))
+both c = length-append (lead (c .args .position) (c .args .number)) (withNewline (digitsIn sixteen wordHexDigits (c .args .word)))
 
 put-lead-requires : tie.Need-put-lead-requires
 put-lead-requires c κs = omega (arith, both (c .before .before))

@@ -5,7 +5,7 @@ use borrow.Author.Needs.{needs}
 use Rattle.names.specs.Digits.{digitsIn}
 use Rattle.names.proofs.Puts.{put-then, put-length}
 use Rattle.names.proofs.Decimals.{digits-length}
-use Rattle.lines.specs.Line.{sixteen, wordDigits}
+use Rattle.lines.specs.Line.{sixteen, wordHexDigits}
 use Rattle.lines.proofs.Lines.{ended-length}
 use Rattle.lines.proofs.put_word.Statement.{statement}
 use Rattle.lines.proofs.put_word.Tie as tie
@@ -13,12 +13,12 @@ use Rattle.lines.proofs.put_word.Tie as tie
 put-digits-requires : tie.Need-put-digits-requires
 put-digits-requires c κs =
     let word = c .before .before .args .word in
-    (omega arith, omega arith, omega (arith, ended-length (digitsIn sixteen wordDigits word), digits-length sixteen wordDigits word))
+    (omega arith, omega arith, omega (arith, ended-length (digitsIn sixteen wordHexDigits word), digits-length sixteen wordHexDigits word))
 
 put-requires : tie.Need-put-requires
 put-requires c κs =
     let word = c .before .before .before .before .before .before .args .word in
-    omega (arith, ended-length (digitsIn sixteen wordDigits word), put-length (c .before .before .before .put-digits .ensures))
+    omega (arith, ended-length (digitsIn sixteen wordHexDigits word), put-length (c .before .before .before .put-digits .ensures))
 
 returns : tie.Need-returns
 returns c = put-then (c .before .before .before .before .before .before .put-digits .ensures) (c .before .before .put .ensures)

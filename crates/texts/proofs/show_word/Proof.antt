@@ -5,7 +5,7 @@ use Prim.Native.Nat.{_≤_}
 use native.Mathlib.Omega.{arith}
 use lib.Seq.{length-take-le}
 use borrow.Author.Needs.{needs}
-use Rattle.names.proofs.Pieces.{mostText}
+use Rattle.names.specs.Named.{mostText}
 use Rattle.names.proofs.Naming.{named-most}
 use Rattle.texts.proofs.show_word.Statement.{statement}
 use Rattle.texts.proofs.show_word.Tie as tie

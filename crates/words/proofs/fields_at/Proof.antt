@@ -1,6 +1,7 @@
 -- `fields_at` meets its contract: each field is what its reader answers.
 -- Assumes nothing.
 use borrow.Author.Needs.{needs}
+use native.Mathlib.Omega.{arith}
 use Rattle.words.proofs.fields_at.Statement.{statement}
 use Rattle.words.proofs.fields_at.Tie as tie
 
@@ -12,13 +13,13 @@ fields-at-spec =
     tie.close
     (tie.spec
     (λ c κs. search needs)
+    (λ c κs. omega arith)
+    (λ c κs. omega arith)
+    (λ c κs. omega arith)
     (λ c κs. search needs)
+    (λ c κs. omega arith)
     (λ c κs. search needs)
+    (λ c κs. omega arith)
     (λ c κs. search needs)
-    (λ c κs. search needs)
-    (λ c κs. search needs)
-    (λ c κs. search needs)
-    (λ c κs. search needs)
-    (λ c κs. search needs)
-    (λ c κs. search needs)
+    (λ c κs. omega arith)
     returns)
