@@ -37,7 +37,7 @@ use Rattle.sums.proofs.Accepted.{width-legal}
 use Rattle.executes.specs.Terms.{Operands, Source, Operand1, Operand2, Old, operandOf, sumOf}
 use Rattle.executes.specs.Meaning.{wideTerms}
 use Rattle.executes.specs.Execute.{operandsOf, maskOf, integerAfter, laneWritten, executed}
-use Rattle.executes.specs.Needs.{ExecutableAs}
+use Rattle.executes.specs.Needs.{ExecutableAs, WideTurn}
 use Rattle.executes.proofs.Halves.{element-same, half-same}
 use Rattle.executes.proofs.Padded.{padded-full}
 use Rattle.executes.proofs.Sizes.{whole, wide-halves, vector-in, vector-length, second-most}
@@ -167,13 +167,18 @@ module _ (wide : WideFamily) (f : Fields) (k : ℕ) (s : State) (x : ExecutableA
         operand
         ∙ sym (fed s e)
 
-    -- one lane more
-    pub after-next : laneWritten f k e (state (fileAfter f k s e) (s .p)) ≡ fileAfter f k s (e + 1)
-    after-next =
-        with-next (place (f .d)) (e * w) w (lanesBelow f k s e) (bytesOf w (residue 64 (integerAfter f k (state (fileAfter f k s e) (s .p)) e))) (s .z)
+    -- lane e can be written in that file
+    pub ahead : (ps : Parameters) (v : ℕ) (z : List ℕ) → ps ≡ formOf (f .row) .parameters → v ≡ w → z ≡ fileAfter f k s e → WideTurn wide ps v e f k (state z (s .p))
+    ahead ps v z parameters width is = record { word = rw is (still e some); parameters = parameters; width = width; inside = turn }
+
+    -- which makes one lane more
+    pub after-next : (z : List ℕ) → z ≡ fileAfter f k s e → laneWritten f k e (state z (s .p)) ≡ fileAfter f k s (e + 1)
+    after-next z is =
+        rw is
+        (with-next (place (f .d)) (e * w) w (lanesBelow f k s e) (bytesOf w (residue 64 (integerAfter f k (state (fileAfter f k s e) (s .p)) e))) (s .z)
         (omega (arith, register-ends (f .d) (x .word .fields .d), lane-ends e turn))
         (sized e some)
-        ∙ ap₂ (λ (n : ℕ) (lanes : List ℕ). withPart (place (f .d)) n lanes (s .z)) wider longer
+        ∙ ap₂ (λ (n : ℕ) (lanes : List ℕ). withPart (place (f .d)) n lanes (s .z)) wider longer)
       where
         wider : e * w + w ≡ (e + 1) * w
         wider = omega (arith, add-mul e 1 w, one-mul w)

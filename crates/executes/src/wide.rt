@@ -24,13 +24,26 @@ fn element_at(operand: &[u8], w: usize, signed: bool, e: usize) -> u64
 }
 
 // The sum of half element 2e + i of one register and half element 2e + j of another, at 64 bits.
-fn half_sum(a: &[u8], b: &[u8], w: usize, signed: bool, e: usize, i: usize, j: usize) -> u64
+fn half_sum_at(a: &[u8], b: &[u8], w: usize, signed: bool, e: usize, i: usize, j: usize) -> u64
     requires { ⌜ HalfLanes w e i j (now a) (now b) ⌝ }
     ensures { λ r. ⌜ r ≡ residue 64 (total (element signed (w / 2) (now (a .entry)) (2 * e + i) ∷ element signed (w / 2) (now (b .entry)) (2 * e + j) ∷ [])) ⌝ }
 {
     let first = element_at(a, w / 2, signed, 2 * e + i);
     let second = element_at(b, w / 2, signed, 2 * e + j);
     std::num::wrapping_add_u64(first, second)
+}
+
+// The same sum. The widths of lanes are told apart, so that each is read by code of its own.
+fn half_sum(a: &[u8], b: &[u8], w: usize, signed: bool, e: usize, i: usize, j: usize) -> u64
+    requires { ⌜ HalfLanes w e i j (now a) (now b) ⌝ }
+    ensures { λ r. ⌜ r ≡ residue 64 (total (element signed (w / 2) (now (a .entry)) (2 * e + i) ∷ element signed (w / 2) (now (b .entry)) (2 * e + j) ∷ [])) ⌝ }
+{
+    match w {
+        2 => half_sum_at(a, b, 2, signed, e, i, j),
+        4 => half_sum_at(a, b, 4, signed, e, i, j),
+        8 => half_sum_at(a, b, 8, signed, e, i, j),
+        _ => half_sum_at(a, b, w, signed, e, i, j),
+    }
 }
 
 // Lane e of a pairwise accumulate: the old lane with both half elements of the source, if it is active.

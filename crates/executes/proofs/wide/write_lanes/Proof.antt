@@ -2,9 +2,8 @@
 -- lane reads is still there, and after the last lane the file is what the word leaves.
 -- Assumes nothing.
 use borrow.Author.Needs.{needs}
-use Prim.Native.Nat.{ℕ, _+_, _-_, _/_, _≤_, _<_}
+use Prim.Native.Nat.{ℕ, _-_, _/_, _≤_, _<_}
 use mathlib.Core.Path.{_≡_, sym, _∙_, ap, ap₂}
-use mathlib.Core.List.{List}
 use native.Mathlib.Nat.{div-le-self}
 use native.Mathlib.Omega.{arith}
 use denote.Ref.{now}
@@ -12,17 +11,12 @@ use lib.ListN.{length}
 use Rattle.machine.specs.Size.{vectorBytes}
 use Rattle.registers.specs.State.{State, state}
 use Rattle.lanes.specs.Lane.{widthOf}
-use Rattle.words.specs.Table.{formOf}
-use Rattle.words.specs.declared.Fields.{Fields}
 use Rattle.words.specs.declared.Form.{Form}
-use Rattle.words.specs.declared.Parameters.{Parameters}
 use Rattle.words.specs.declared.Family.the-variants.{Wide}
-use Rattle.words.specs.declared.WideFamily.{WideFamily}
 use Rattle.sums.proofs.Accepted.{width-legal}
-use Rattle.executes.specs.Execute.{laneWritten}
-use Rattle.executes.specs.Needs.{ExecutableAs, WideTurn}
+use Rattle.executes.specs.Needs.{ExecutableAs}
 use Rattle.executes.proofs.Sizes.{k-most}
-use Rattle.executes.proofs.InPlace.{fileAfter, length-after, still, after-none, after-next, after-all}
+use Rattle.executes.proofs.InPlace.{fileAfter, length-after, ahead, after-none, after-next, after-all}
 use Rattle.executes.proofs.wide.write_lanes.Statement.{statement}
 use Rattle.executes.proofs.wide.write_lanes.Tie as tie
 
@@ -58,21 +52,6 @@ count-is c = ap₂ (λ (bytes w : ℕ). bytes / w) (c .register-bytes .ensures) 
 turn : (c : tie.In-loop Inv-loop μ-loop) → c .before .loop .e < lanes (c .before .before)
 turn c = omega (arith, c .loop-test .taken, count-is (c .before .before))
 
--- what the next lane is written from, and what it leaves
-ahead : (wide : WideFamily) (f : Fields) (k : ℕ) (s : State) → ExecutableAs (Wide wide) f k s → (ps : Parameters) (w e : ℕ) (z : List ℕ) → ps ≡ formOf (f .row) .parameters
-    → w ≡ widthOf (f .size) → e < vectorBytes k / widthOf (f .size) → z ≡ fileAfter f k s e → WideTurn wide ps w e f k (state z (s .p))
-ahead wide f k s x ps w e z parameters width inside is =
-    record {
-      word = rw is (still wide f k s x e (omega arith));
-      parameters = parameters;
-      width = width;
-      inside = inside;
-    }
-
-written : (wide : WideFamily) (f : Fields) (k : ℕ) (s : State) → ExecutableAs (Wide wide) f k s → (e : ℕ) (z : List ℕ)
-    → e < vectorBytes k / widthOf (f .size) → z ≡ fileAfter f k s e → laneWritten f k e (state z (s .p)) ≡ fileAfter f k s (e + 1)
-written wide f k s x e z inside is = rw is (after-next wide f k s x e inside)
-
 register-bytes-requires : tie.Need-register-bytes-requires Inv-loop μ-loop
 register-bytes-requires c κs = k-most _ _ _ (c .before .before .before .before .before .pre .word)
 
@@ -86,7 +65,7 @@ write-lane-requires : tie.Need-write-lane-requires Inv-loop μ-loop
 write-lane-requires c κs =
     let l = c .before in
     let r = l .before .before in
-    ahead _ _ _ _ (word r) _ _ _ _ (ap (λ (form : Form). form .parameters) (r .before .before .before .form-of .ensures)) (width-is r) (turn l) (l .before .loop .inv .1)
+    ahead _ _ _ _ (word r) _ (turn l) _ _ _ (ap (λ (form : Form). form .parameters) (r .before .before .before .form-of .ensures)) (width-is r) (l .before .loop .inv .1)
 
 add-e : tie.Need-add-e Inv-loop μ-loop
 add-e c =
@@ -99,7 +78,7 @@ loop-again c =
     let l = c .before .before .before .before in
     let r = l .before .before in (
       omega (arith, l .loop-test .taken),
-      c .before .before .write-lane .ensures ∙ written _ _ _ _ (word r) _ _ (turn l) (l .before .loop .inv .1),
+      c .before .before .write-lane .ensures ∙ after-next _ _ _ _ (word r) _ (turn l) _ (l .before .loop .inv .1),
     )
 
 same-length : tie.Need-same-length Inv-loop μ-loop
