@@ -1,5 +1,5 @@
--- Naming is injective on accepted words, a word's text assembles to the word, an accepted text is named as it stood, and the contract of
--- `assemble` allows one result.
+-- Naming is injective on accepted words, every form in range is an accepted word's text, a word's text assembles to the word, an accepted text
+-- is named as it stood, and the contract of `assemble` allows one result.
 -- Assumes nothing.
 use mathlib.Core.Path.{_≡_, sym, _∙_, ap}
 use mathlib.Core.Logic.{⊎-elim, _↔_}
@@ -12,7 +12,7 @@ use Rattle.words.specs.Digits.{wordDigits}
 use Rattle.words.specs.Decode.{decoded, numberOf}
 use Rattle.words.specs.Encode.{encoded, InRange}
 use Rattle.words.specs.declared.Fields.{Fields}
-use Rattle.words.proofs.Encoding.{decoded-in-range, encoded-decoded}
+use Rattle.words.proofs.Encoding.{decoded-in-range, encoded-decoded, encoded-below, decoded-encoded}
 use Rattle.names.specs.Text.{textOf}
 use Rattle.names.specs.Named.{leastOut, textOfDecoded, textOfWord, Named}
 use Rattle.names.proofs.Naming.{done-accepted, accepted-named}
@@ -35,6 +35,12 @@ naming-injective v w hv hw av aw e =
     fields-injective f g (decoded-in-range v f isv) (decoded-in-range w g isw)
     (sym (ap textOfDecoded isv) ∙ e ∙ ap textOfDecoded isw) in
     sym (encoded-decoded v f hv isv) ∙ ap encoded same ∙ encoded-decoded w g hw isw
+
+-- every form in range is the text of an accepted word: of the one that its fields make
+pub form-accepted : (f : Fields) → InRange f → ReadsAs (encoded f) (textOf f)
+form-accepted f r =
+    let back = decoded-encoded f r in
+    record { below = encoded-below f r; accepted = ap numberOf back; reads = ap textOfDecoded back }
 
 pub reads-once : (text : List ℕ) (v w : ℕ) → ReadsAs v text → ReadsAs w text → v ≡ w
 reads-once text v w a b = naming-injective v w (a .below) (b .below) (a .accepted) (b .accepted) (a .reads ∙ sym (b .reads))

@@ -1,13 +1,16 @@
 -- An executed word is undone by its entry. So a step back after an accepted step is accepted and gives the former state always, and the former
--- journal where it was bytes and the entry's room was zeros.
+-- journal where it was bytes and the entry's room was zeros; there the step again leaves what it had left, in the room that back gave up.
 -- Assumes nothing.
 use Prim.Native.Nat.{ℕ}
-use mathlib.Core.Path.{_≡_, sym, _∙_, ap}
+use mathlib.Core.Path.{_≡_, refl, sym, _∙_, ap}
 use mathlib.Core.List.{List}
 use native.Mathlib.Omega.{arith}
-use lib.ListN.{length}
+use lib.ListN.{length, replicate}
+use Rattle.parts.specs.Part.{part}
+use Rattle.parts.specs.Number.{AreBytes}
 use Rattle.parts.proofs.Parts.{with-again, with-same}
 use Rattle.machine.specs.Size.{vectorBytes}
+use Rattle.machine.specs.Refusal.{DONE}
 use Rattle.registers.specs.declared.Kind.the-variants.{Vector}
 use Rattle.registers.specs.Register.{registerAt, vectorOf, InFile}
 use Rattle.registers.specs.State.{State, state, Sized}
@@ -16,8 +19,8 @@ use Rattle.words.specs.declared.Fields.{Fields}
 use Rattle.executes.specs.Execute.{destinationAfter, executed}
 use Rattle.executes.specs.Needs.{Executable}
 use Rattle.executes.proofs.Sizes.{length-destination}
-use Rattle.journal.specs.Layout.{Entry, pushed}
-use Rattle.journal.specs.Calls.{fieldsNow, entryFor, restored, stepRefused, stepState, stepJournal, backRefused}
+use Rattle.journal.specs.Layout.{Entry, entryBytes, entryAt, heldOf, pushed}
+use Rattle.journal.specs.Calls.{fieldsNow, entryFor, restored, stepRefused, stepState, stepJournal, backRefused, backState, backJournal, Stepped}
 use Rattle.journal.specs.Frame.{Former}
 use Rattle.journal.proofs.Places.{count-bytes}
 use Rattle.journal.proofs.Accepted.{AcceptedStep, step-accepted, back-accepted, back-accepts}
@@ -78,3 +81,13 @@ back-after-step k s program journal e =
           ∙ restored-executed f k s (a .executes);
       bytes = λ all empty. b .bytes ∙ popped-pushed k entry journal room empty (sym (count-bytes journal (room .least) all));
     })
+
+-- the room that back gives up is used again: from what an accepted step left, back and then the step again leave that state and that journal
+pub step-after-back : (k : ℕ) (s : State) (program journal : List ℕ) → stepRefused k s program journal ≡ 0 → AreBytes journal
+    → part (entryAt k journal (heldOf journal)) (entryBytes k) journal ≡ replicate (entryBytes k) 0
+    → let later = stepState k s program journal in
+    let later-journal = stepJournal k s program journal in
+    Stepped k (backState k later later-journal) program (backJournal k later later-journal) DONE later later-journal
+step-after-back k s program journal e all empty =
+    let former = back-after-step k s program journal e in
+    rw (former .files, former .bytes all empty) (record { answered = sym e; files = refl; bytes = refl })

@@ -116,3 +116,8 @@ abbrev pub Performed : Fields → ℕ → State → List ℕ → ℕ → State �
 Performed f k s journal =
     Leaves (refused (fullTests k journal)) (unlessRefused (refused (fullTests k journal)) (executed f k s) s)
     (unlessRefused (refused (fullTests k journal)) (pushed k (entryFor k f s) journal) journal)
+
+-- a word carried out: executed, and its entry appended
+pub record CarriedOut (f : Fields) (k : ℕ) (s : State) (journal z-after journal-after : List ℕ) : Type 0 where
+  pub vectors : z-after ≡ executed f k s .z
+  pub bytes : journal-after ≡ pushed k (entryFor k f s) journal

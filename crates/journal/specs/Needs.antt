@@ -59,3 +59,8 @@ pub record Ready (f : Fields) (k : ℕ) (s : State) (journal : List ℕ) : Type 
   pub word : Executable f k s
   pub header : headerBytes ≤ length journal
   pub few : heldOf journal < mostWords
+
+-- a word that executes, and a journal that has room for its entry
+pub record CarryOut (f : Fields) (k : ℕ) (s : State) (journal : List ℕ) : Type 0 where
+  pub word : Executable f k s
+  pub room : Append k (f .d) (s .z) journal

@@ -1,7 +1,7 @@
 // The journal's bytes: mark, version, k and count, then entries of a register's number and its old bytes.
 ghost use mathlib.Core.Path.{_≡_};
 ghost use Prim.Native.Nat.{_≤_};
-ghost use lib.ListN.{length, take};
+ghost use lib.ListN.{length, take, replicate};
 ghost use Rattle.parts.specs.Part.{sameBytes};
 ghost use Rattle.machine.specs.Size.{mostLength, mostWords};
 ghost use Rattle.machine.specs.Refusal.{refused};
@@ -178,7 +178,15 @@ pub(crate) fn put_fresh(k: usize, journal: &mut [u8])
     requires { ⌜ Headed k (now journal) ⌝ }
     ensures { λ _. ⌜ now (journal .exit) ≡ freshJournal k (length (now (journal .entry))) ⌝ }
 {
-    parts::clear(journal);
+    clear(journal);
     let heading = heading(k);
     bytes::copy(&heading, journal);
+}
+
+// Sets a journal's bytes to zeros, those after its header too.
+fn clear(journal: &mut [u8])
+    requires { ⌜ headerBytes ≤ length (now journal) ⌝ }
+    ensures { λ _. ⌜ now (journal .exit) ≡ replicate (length (now (journal .entry))) 0 ⌝ }
+{
+    parts::clear(journal);
 }

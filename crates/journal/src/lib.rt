@@ -1,8 +1,8 @@
 // The step-back journal: a fresh one, a step that appends an entry, and back, which takes the last entry off again.
 ghost use mathlib.Core.Path.{_≡_};
 ghost use Rattle.registers.specs.State.{state};
-ghost use Rattle.journal.specs.Calls.{startRefused, backRefused, Freshened, Stepped, Backed, Performed};
-ghost use Rattle.journal.specs.Needs.{Ready};
+ghost use Rattle.journal.specs.Calls.{startRefused, backRefused, Freshened, Stepped, Backed, Performed, CarriedOut};
+ghost use Rattle.journal.specs.Needs.{Ready, CarryOut};
 use machine::Length;
 use machine::refusal;
 use words::Decoded;
@@ -87,9 +87,17 @@ fn perform(k: usize, z: &mut [u8], p: &[u8], journal: &mut [u8], f: Fields) -> u
     if layout::capacity(k, journal.len()) <= layout::held_of(journal) {
         return refusal::FULL;
     }
+    carry_out(k, z, p, journal, f);
+    refusal::DONE
+}
+
+// Appends a word's entry, and executes the word.
+fn carry_out(k: usize, z: &mut [u8], p: &[u8], journal: &mut [u8], f: Fields)
+    requires { ⌜ CarryOut f k (state (now z) (now p)) (now journal) ⌝ }
+    ensures { λ _. ⌜ CarriedOut f k (state (now (z .entry)) (now (p .entry))) (now (journal .entry)) (now (z .exit)) (now (journal .exit)) ⌝ }
+{
     entries::append(k, z, journal, f.d);
     executes::execute(f, k, z, p);
-    refusal::DONE
 }
 
 // Executes the word at the position, appends its entry and raises the count; or a refusal, and all as it stood.

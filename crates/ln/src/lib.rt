@@ -20,6 +20,8 @@ ghost use Rattle.lines.specs.Line.{LineWritten};
 ghost use Rattle.ln.specs.Panel.{panelBytes, joined, PanelWritten};
 ghost use Rattle.ln.specs.Outside.{isSet, answerOut, answerIn, decodedOut, fieldsOut, flagOf, kindOf, placeFor, sessionOut, wordOut};
 
+mod held;
+
 // An answer with a value, which is 0 with a refusal.
 #[repr(C)]
 pub struct LnAnswer {
@@ -228,9 +230,7 @@ pub extern "C" fn ln_step(
 // Takes the last step back, or LENGTH, FILE, ROOM, JOURNAL or EMPTY.
 #[no_mangle]
 pub extern "C" fn ln_back(k: usize, z: &mut [u8], p: &[u8], journal: &mut [u8]) -> u64
-    ensures { λ r. ⌜ Backed k (state (now (z .entry)) (now (p .entry))) (now (journal .entry)) r
-        (state (now (z .exit)) (now (p .entry)))
-        (now (journal .exit)) ⌝ }
+    ensures { λ r. ⌜ Backed k (state (now (z .entry)) (now (p .entry))) (now (journal .entry)) r (state (now (z .exit)) (now (p .entry))) (now (journal .exit)) ⌝ }
 {
     journal::back(k, z, p, journal) as u64
 }

@@ -1,9 +1,154 @@
-// Every family executed, and long runs forward and back; the lines are as families and runs say.
-mod families;
-mod filled;
-mod runs;
+// Long runs forward and back, each compared with a plain walk from the same start: every byte of the vector file and of the journal.
+use libc::STDOUT_FILENO;
+use machine::Length;
+ghost use Prim.Native.Nat.{_≤_};
+ghost use Rattle.machine.specs.Size.{mostLength};
+ghost use Rattle.journal.specs.Layout.{mostJournal};
+
+mod plain;
+
+// The directions of a run, their seed, and how many there are to choose from: one of three is back.
+const DIRECTIONS: usize = 1200;
+
+const DIRECTION_SEED: u8 = 9;
+
+const CHOICES: u64 = 3;
+
+// Shows a figure and the space after it.
+fn show_figure(figure: u64) {
+    io::print_decimal(STDOUT_FILENO, figure);
+    io::write_all(STDOUT_FILENO, b" ");
+}
+
+// Whether the bytes are those of a plain walk of so many words, made in the other buffers.
+fn is_walked(
+    k: usize,
+    z: &[u8],
+    p: &[u8],
+    program: &[u8],
+    journal: &[u8],
+    plain_z: &mut [u8],
+    plain_journal: &mut [u8],
+    steps: usize,
+) -> bool
+    requires { ⌜ k ≤ mostLength ⌝ }
+{
+    fillings::fill_vectors(plain_z);
+    if !plain::walk(k, plain_z, p, program, plain_journal, steps) {
+        return false;
+    }
+    check::same(plain_z, z) && check::same(plain_journal, journal)
+}
+
+// Whether the bytes are those of a plain walk of so many words.
+fn is_plain(k: usize, z: &[u8], p: &[u8], program: &[u8], journal: &[u8], steps: usize) -> bool
+    requires { ⌜ k ≤ mostLength ⌝ }
+{
+    let mut plain_z = [0u8; fillings::MOST_VECTORS];
+    let mut plain_journal = [0u8; journal::layout::MOST];
+    let z_end = z.len();
+    let room = journal.len();
+    if z_end <= fillings::MOST_VECTORS && room <= journal::layout::MOST {
+        return is_walked(
+            k,
+            z,
+            p,
+            program,
+            journal,
+            &mut plain_z[..z_end],
+            &mut plain_journal[..room],
+            steps,
+        );
+    }
+    false
+}
+
+// Shows whether a run's bytes are those of the plain walk.
+fn show_same(same: bool) {
+    if same {
+        io::write_all(STDOUT_FILENO, b"same\n");
+    } else {
+        io::write_all(STDOUT_FILENO, b"differs\n");
+    }
+}
+
+// Shows a run over filled buffers: how many steps of each direction are accepted, and whether all bytes are the plain walk's.
+fn show_steps(
+    k: usize,
+    z: &mut [u8],
+    p: &[u8],
+    program: &[u8],
+    journal: &mut [u8],
+    directions: &[u8],
+)
+    requires { ⌜ k ≤ mostLength ⌝ }
+{
+    journal::fresh(k, journal);
+    let made = travel::travel(k, z, p, program, journal, directions);
+    show_figure(made.forward as u64);
+    show_figure(made.back as u64);
+    let mut same = false;
+    if made.back <= made.forward {
+        same = is_plain(k, z, p, program, journal, made.forward - made.back);
+    }
+    show_same(same);
+}
+
+// Shows a run over files, with a program and directions that it fills.
+fn show_files(k: usize, z: &mut [u8], p: &[u8], journal: &mut [u8])
+    requires { ⌜ k ≤ mostLength ⌝ }
+{
+    let mut program = [0u8; Length::WORD_BYTES * Length::MOST_WORDS];
+    let mut directions = [0u8; DIRECTIONS];
+    fillings::fill_words(&mut program);
+    fillings::fill(&mut directions, DIRECTION_SEED, CHOICES);
+    show_steps(k, z, p, &program, journal, &directions);
+}
+
+// Shows a run over files that it fills.
+fn show_filled(k: usize, z: &mut [u8], p: &mut [u8], journal: &mut [u8])
+    requires { ⌜ k ≤ mostLength ⌝ }
+{
+    fillings::fill_vectors(z);
+    fillings::fill_predicates(p);
+    show_files(k, z, p, journal);
+}
+
+// Shows a run at a length over the bytes of a journal.
+fn show_journal(k: usize, journal: &mut [u8])
+    requires { ⌜ k ≤ mostLength ⌝ }
+{
+    let length = Length { k };
+    let vectors = length.vector_file();
+    let predicates = length.predicate_file();
+    let mut z = [0u8; fillings::MOST_VECTORS];
+    let mut p = [0u8; fillings::MOST_PREDICATES];
+    show_filled(k, &mut z[..vectors], &mut p[..predicates], journal);
+}
+
+// Shows a run at a length with a journal of so many bytes.
+fn show_run(k: usize, room: usize)
+    requires { ⌜ (k ≤ mostLength) × (room ≤ mostJournal) ⌝ }
+{
+    let mut journal = [0u8; journal::layout::MOST];
+    show_figure(k as u64);
+    show_figure(room as u64);
+    show_journal(k, &mut journal[..room]);
+}
+
+// Shows runs at a length with a journal of no entry, of one entry less a byte, of one entry, and of the most bytes.
+fn show_length(k: usize)
+    requires { ⌜ k ≤ mostLength ⌝ }
+{
+    let entry = plain::HEADER + plain::NUMBER + Length { k }.vector_bytes();
+    show_run(k, plain::HEADER);
+    show_run(k, entry - 1);
+    show_run(k, entry);
+    show_run(k, journal::layout::MOST);
+}
 
 fn main() {
-    families::show_families();
-    runs::show_runs();
+    show_length(1);
+    show_length(5);
+    show_length(16);
 }

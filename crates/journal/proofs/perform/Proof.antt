@@ -1,4 +1,4 @@
--- `perform` meets its contract: with no room for an entry FULL and all as it stood; else the entry is appended and the word executed.
+-- `perform` meets its contract: with no room for an entry FULL and all as it stood; else the word is carried out.
 -- Assumes nothing.
 use borrow.Author.Needs.{needs}
 use borrow.Author.Tests.{le-leb, lt-leb}
@@ -35,9 +35,6 @@ start c = c .before .before .before .before .before .before
 abbrev lent : tie.Start → State
 lent s = state (now (s .args .z)) (now (s .args .p))
 
-abbrev appended : tie.After-execute → tie.After-append
-appended c = c .before .before .before .before
-
 -- past the test an entry fits
 fits : (c : tie.Else1) → let a = start (c .before) .args in heldOf (now (a .journal)) < capacity (a .k) (length (now (a .journal)))
 fits c = omega arith
@@ -50,18 +47,18 @@ returns c =
     let s = start (c .before) in
     full (s .args .f) (s .args .k) (lent s) (now (s .args .journal)) (omega arith)
 
-append-requires : tie.Need-append-requires
-append-requires c κs =
+carry-out-requires : tie.Need-carry-out-requires
+carry-out-requires c κs =
     let e = c .before .before in
     let s = start (e .before) in
-    can-append (s .args .k) (s .args .f) (lent s) (now (s .args .journal)) (s .pre) (fits e)
+    record { word = s .pre .word; room = can-append (s .args .k) (s .args .f) (lent s) (now (s .args .journal)) (s .pre) (fits e) }
 
 returns-2 : tie.Need-returns-2
 returns-2 c =
-    let x = c .before .before in
-    let e = appended x .before .before .before in
+    let x = c .before .before .before .before in
+    let e = x .before .before .before in
     let s = start (e .before) in
-    performed (s .args .f) (s .args .k) (lent s) (now (s .args .journal)) _ _ (fits e) (x .execute .ensures) (appended x .append .ensures)
+    performed (s .args .f) (s .args .k) (lent s) (now (s .args .journal)) _ _ (fits e) (x .carry-out .ensures .vectors) (x .carry-out .ensures .bytes)
 
 pub perform-spec : {M : Type 1} → statement M
 perform-spec =
@@ -71,8 +68,7 @@ perform-spec =
     (λ c κs. search needs)
     (λ c. search needs)
     returns
-    append-requires
-    (λ c κs. search needs)
+    carry-out-requires
     (λ c. search needs)
     (λ c. search needs)
     returns-2)

@@ -1,0 +1,30 @@
+-- `show_length` is safe and ends: each word's place lies in the program.
+-- Assumes nothing.
+use Prim.Native.Nat.{_≤_, _-_}
+use lib.ListN.{length}
+use borrow.Author.Needs.{needs}
+use Rattle.families.proofs.show_length.Statement.{statement}
+use Rattle.families.proofs.show_length.Tie as tie
+
+abbrev Inv-loop : tie.InvT-loop
+Inv-loop k program at₀ at = at ≤ length program
+
+abbrev μ-loop : tie.MeasureT-loop
+μ-loop k program at₀ at = length program - at
+
+pub show-length-spec : {M : Type 1} → statement M
+show-length-spec =
+    tie.close
+    (tie.spec
+    Inv-loop
+    μ-loop
+    (λ c. search needs)
+    (λ c. search needs)
+    (λ c. search needs)
+    (λ c. search needs)
+    (λ c. search needs)
+    (λ c κs. search needs)
+    (λ c. search needs)
+    (λ c. search needs)
+    (λ c. search needs)
+    (λ c. search needs))

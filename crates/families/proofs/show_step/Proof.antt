@@ -1,0 +1,21 @@
+-- `show_step` is safe: the files of a legal length lie in the bytes at hand.
+-- Assumes nothing.
+use lib.Seq.{length-take-le}
+use mathlib.Core.Path.{sym}
+use native.Mathlib.Omega.{arith}
+use borrow.Author.Needs.{needs}
+use Rattle.families.proofs.show_step.Statement.{statement}
+use Rattle.families.proofs.show_step.Tie as tie
+
+pub show-step-spec : {M : Type 1} → statement M
+show-step-spec =
+    tie.close
+    (tie.spec
+    (λ c κs. search needs)
+    (λ c κs. search needs)
+    (λ c. search needs)
+    (λ c. sym (length-take-le _ _ (omega arith)))
+    (λ c. search needs)
+    (λ c. sym (length-take-le _ _ (omega arith)))
+    (λ c κs. search needs)
+    (λ c. search needs))

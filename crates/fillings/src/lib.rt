@@ -1,0 +1,74 @@
+// What the trials start from: bytes filled by a rule that a reader can repeat, and a program of every row.
+use machine::Length;
+ghost use Prim.Native.Nat.{_≤_, _<_};
+ghost use mathlib.Core.Path.{_≡_};
+ghost use lib.ListN.{length};
+ghost use Rattle.programs.specs.Word.{wordsOf};
+ghost use Rattle.fillings.specs.Filled.{filledFrom, filledWords};
+
+// The bytes of the longest vector file and of the longest predicate file.
+pub const MOST_VECTORS: usize = Length::VECTORS * Length::MOST_BYTES;
+
+pub const MOST_PREDICATES: usize = Length::PREDICATES * Length::SEGMENT_PREDICATE * Length::MOST;
+
+// The values that a byte has: a cut that leaves each value as it is.
+const BYTE: u64 = 256;
+
+// Fills bytes by the rule: the first value is the seed, each next is 7 times the last and 11, modulo 251; a byte is what is left of
+// its value after division by the cut.
+pub fn fill(bytes: &mut [u8], seed: u8, cut: u64)
+    requires { ⌜ (0 < cut) × (cut ≤ 256) ⌝ }
+    ensures { λ _. ⌜ now (bytes .exit) ≡ filledFrom cut (length (now (bytes .entry))) seed ⌝ }
+{
+    let mut value = seed as u64;
+    let mut i = 0;
+    while i < bytes.len() {
+        bytes[i] = (value % cut) as u8;
+        value = (value * 7 + 11) % 251;
+        i += 1;
+    }
+}
+
+// Fills a vector file.
+pub fn fill_vectors(z: &mut [u8]) {
+    fill(z, 3, BYTE);
+}
+
+// Fills a predicate file.
+pub fn fill_predicates(p: &mut [u8]) {
+    fill(p, 5, BYTE);
+}
+
+// How many words there are.
+pub const COUNT: usize = 11;
+
+// The words that are executed: every row, each with its destination among its sources.
+const WORDS: [u64; COUNT] = [
+    0x04002463,
+    0x04C12463,
+    0x04452463,
+    0x4E303863,
+    0x6EB03863,
+    0x4444A463,
+    0x44C5A463,
+    0x45430063,
+    0x45830463,
+    0x45C30863,
+    0x45430C63,
+];
+
+// Fills a program with those words, one after the other and again from the first.
+pub fn fill_words(program: &mut [u8])
+    ensures { λ _. ⌜ now (program .exit) ≡ filledWords (wordsOf (length (now (program .entry)))) (now (program .entry)) ⌝ }
+{
+    let mut i = 0;
+    while i < program.len() / Length::WORD_BYTES {
+        parts::put_number(
+            program,
+            i * Length::WORD_BYTES,
+            Length::WORD_BYTES,
+            WORDS[i % COUNT],
+        );
+        i += 1;
+    }
+}

@@ -1,0 +1,81 @@
+-- Each exported call is determined by its contract: two results that the contract allows are the same, the answer and every lent byte.
+-- Assumes nothing.
+use Prim.Native.Nat.{ℕ}
+use mathlib.Core.Path.{_≡_, ap}
+use mathlib.Core.List.{List}
+use Rattle.machine.proofs.Tests.{one-result}
+use Rattle.registers.specs.State.{State}
+use Rattle.words.specs.Decode.{decoded}
+use Rattle.names.specs.Named.{Named}
+use Rattle.names.proofs.Naming.{text-determined}
+use Rattle.assembles.specs.Assembled.{Assembled}
+use Rattle.assembles.proofs.Theorems.{assemble-determined}
+use Rattle.programs.specs.Word.{nextWord}
+use Rattle.sums.specs.Calls.{subtotalAnswer}
+use Rattle.journal.specs.Calls.{Freshened, Stepped, Backed}
+use Rattle.journal.proofs.Answers.{fresh-determined, step-determined, back-determined}
+use Rattle.session.specs.Layout.{sessionOf}
+use Rattle.lines.specs.Line.{LineWritten, stepLine}
+use Rattle.lines.proofs.Lines.{line-determined}
+use Rattle.ln.specs.declared.LnAnswer.{LnAnswer}
+use Rattle.ln.specs.declared.LnFields.{LnFields}
+use Rattle.ln.specs.declared.LnPlace.{LnPlace}
+use Rattle.ln.specs.declared.LnSession.{LnSession}
+use Rattle.ln.specs.declared.LnWord.{LnWord}
+use Rattle.ln.specs.Outside.{isSet, answerOut, answerIn, decodedOut, kindOf, placeFor, sessionOut, wordOut}
+use Rattle.ln.specs.Panel.{PanelWritten}
+use Rattle.ln.proofs.Panels.{panel-written-determined}
+
+pub ln-decode-determined : (word : ℕ) (r q : LnFields) → r ≡ decodedOut (decoded word) → q ≡ decodedOut (decoded word) → r ≡ q
+ln-decode-determined word = one-result (decodedOut (decoded word))
+
+pub ln-text-determined : (word : ℕ) (out a b : List ℕ) (r q : LnAnswer) → Named word out a (answerIn r) → Named word out b (answerIn q) → (r ≡ q) × (a ≡ b)
+ln-text-determined word out a b r q x y =
+    let (number, bytes) = text-determined word out a b (answerIn r) (answerIn q) x y in (ap answerOut number, bytes)
+
+pub ln-assemble-determined : (text : List ℕ) (r q : LnAnswer) → Assembled text (answerIn r) → Assembled text (answerIn q) → r ≡ q
+ln-assemble-determined text r q x y = ap answerOut (assemble-determined text (answerIn r) (answerIn q) x y)
+
+pub ln-read-word-determined : (program : List ℕ) (at : ℕ) (r q : LnWord) → r ≡ wordOut (nextWord program at) → q ≡ wordOut (nextWord program at) → r ≡ q
+ln-read-word-determined program at = one-result (wordOut (nextWord program at))
+
+pub ln-read-session-determined : (bytes : List ℕ) (r q : LnSession) → r ≡ sessionOut (sessionOf bytes) → q ≡ sessionOut (sessionOf bytes) → r ≡ q
+ln-read-session-determined bytes = one-result (sessionOut (sessionOf bytes))
+
+pub ln-fresh-determined : (k : ℕ) (journal : List ℕ) (r q : ℕ) (a b : List ℕ) → Freshened k journal r a → Freshened k journal q b → (r ≡ q) × (a ≡ b)
+ln-fresh-determined = fresh-determined
+
+-- calls on both files
+module _ (k : ℕ) (s : State) where
+  pub ln-subtotal-determined : (source governing size is-signed a b : ℕ) (r q : LnAnswer)
+      → r ≡ answerOut (subtotalAnswer k (s .z) (s .p) source governing size (isSet is-signed) a b)
+      → q ≡ answerOut (subtotalAnswer k (s .z) (s .p) source governing size (isSet is-signed) a b)
+      → r ≡ q
+  ln-subtotal-determined source governing size is-signed a b = one-result _
+
+  pub ln-register-place-determined : (predicate number : ℕ) (r q : LnPlace) → r ≡ placeFor k (s .z) (s .p) (kindOf (isSet predicate)) number
+      → q ≡ placeFor k (s .z) (s .p) (kindOf (isSet predicate)) number
+      → r ≡ q
+  ln-register-place-determined predicate number = one-result _
+
+  pub ln-panel-determined : (source governing size : ℕ) (out : List ℕ) (r q : ℕ) (a b : List ℕ)
+      → PanelWritten k (s .z) (s .p) source governing size out r a
+      → PanelWritten k (s .z) (s .p) source governing size out q b
+      → (r ≡ q) × (a ≡ b)
+  ln-panel-determined = panel-written-determined k (s .z) (s .p)
+
+  pub ln-write-line-determined : (program : List ℕ) (position number : ℕ) (out a b : List ℕ) (r q : LnAnswer)
+      → LineWritten k s program position number out a (answerIn r)
+      → LineWritten k s program position number out b (answerIn q)
+      → (r ≡ q) × (a ≡ b)
+  ln-write-line-determined program position number out a b r q x y =
+      let (answer, bytes) = line-determined _ (stepLine k s program position number) out a b (answerIn r) (answerIn q) x y in
+      (ap answerOut answer, bytes)
+
+  pub ln-step-determined : (program journal : List ℕ) (r q : ℕ) (a b : State) (i j : List ℕ) → Stepped k s program journal r a i → Stepped k s program journal q b j
+      → (r ≡ q) × (a ≡ b) × (i ≡ j)
+  ln-step-determined = step-determined k s
+
+  pub ln-back-determined : (journal : List ℕ) (r q : ℕ) (a b : State) (i j : List ℕ) → Backed k s journal r a i → Backed k s journal q b j
+      → (r ≡ q) × (a ≡ b) × (i ≡ j)
+  ln-back-determined = back-determined k s

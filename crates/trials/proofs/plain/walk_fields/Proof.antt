@@ -1,0 +1,28 @@
+-- `walk_fields` is safe: the destination lies in the vector file.
+-- Assumes nothing.
+use borrow.Author.Needs.{needs}
+use denote.Ref.{now}
+use Rattle.registers.specs.State.{state}
+use Rattle.executes.proofs.Sizes.{vector-in}
+use Rattle.trials.proofs.plain.walk_fields.Statement.{statement}
+use Rattle.trials.proofs.plain.walk_fields.Tie as tie
+
+register-requires : tie.Need-register-requires
+register-requires c κs =
+    let s = c .before .before .before .before in
+    vector-in (s .args .f) (s .args .k) (state (now (s .args .z)) (now (s .args .p))) (s .pre) (s .args .f .d) (s .pre .fields .d)
+
+pub walk-fields-spec : {M : Type 1} → statement M
+walk-fields-spec =
+    tie.close
+    (tie.spec
+    register-requires
+    (λ c. search needs)
+    (λ c. search needs)
+    (λ c. search needs)
+    (λ c κs. search needs)
+    (λ c κs. search needs)
+    (λ c κs. search needs)
+    (λ c. search needs)
+    (λ c. search needs)
+    (λ c. search needs))

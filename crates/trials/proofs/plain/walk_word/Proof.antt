@@ -1,0 +1,42 @@
+-- `walk_word` is safe: files that are not refused and the fields of an accepted word can be executed.
+-- Assumes nothing.
+use borrow.Author.Needs.{needs}
+use mathlib.Core.Path.{sym, _∙_}
+use denote.Ref.{now}
+use Rattle.machine.proofs.Checks.{files-checked}
+use Rattle.words.proofs.Encoding.{decoded-in-range}
+use Rattle.trials.proofs.plain.walk_word.Statement.{statement}
+use Rattle.trials.proofs.plain.walk_word.Tie as tie
+
+abbrev start : tie.After-check-files → tie.Start
+start c = c .before .before .before .before .before
+
+-- the files passed their check, and the word decodes to its fields
+walk-fields-requires : tie.Need-walk-fields-requires
+walk-fields-requires c κs =
+    let found = c .before .before .before .decoded in
+    let decode = c .before .before .before .before .before in
+    let files = decode .before .before in
+    let a = start files .args in
+    record {
+      lent = files-checked (a .k) (now (a .z)) (now (a .p)) _ (files .check-files .ensures) (decode .before .if1 .left);
+      fields = decoded-in-range (a .word) _ (sym (decode .decode .ensures) ∙ found .given .1);
+    }
+
+pub walk-word-spec : {M : Type 1} → statement M
+walk-word-spec = tie.close (tie.spec
+    (λ c κs. search needs)
+    (λ c. search needs)
+    (λ c. search needs)
+    (λ c κs. search needs)
+    (λ c. search needs)
+    (λ c. search needs)
+    (λ c. search needs)
+    walk-fields-requires
+    (λ c. search needs)
+    (λ c. search needs)
+    (λ c. search needs)
+    (λ c. search needs)
+    (λ c. search needs)
+    (λ c. search needs)
+    (λ c. search needs))

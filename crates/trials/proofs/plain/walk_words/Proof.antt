@@ -1,0 +1,46 @@
+-- `walk_words` is safe and ends: each word lies in the program, and each entry in the journal, as asked before.
+-- Assumes nothing.
+use Prim.Native.Nat.{_+_, _-_, _≤_}
+use mathlib.Core.Path.{_≡_}
+use lib.ListN.{length}
+use borrow.Author.Needs.{needs}
+use Rattle.trials.proofs.plain.walk_words.Statement.{statement}
+use Rattle.trials.proofs.plain.walk_words.Tie as tie
+
+abbrev Inv-loop : tie.InvT-loop
+Inv-loop k z₀ p program journal₀ steps bytes at₀ i₀ z journal at i =
+    (at ≤ 8 + length journal₀) × (length z ≡ length z₀) × (length journal ≡ length journal₀)
+
+abbrev μ-loop : tie.MeasureT-loop
+μ-loop k z₀ p program journal₀ steps bytes at₀ i₀ z journal at i = steps - i
+
+pub walk-words-spec : {M : Type 1} → statement M
+walk-words-spec =
+    tie.close
+    (tie.spec
+    Inv-loop
+    μ-loop
+    (λ c κs. search needs)
+    (λ c. search needs)
+    (λ c. search needs)
+    (λ c. search needs)
+    (λ c. search needs)
+    (λ c. search needs)
+    (λ c. search needs)
+    (λ c. search needs)
+    (λ c. search needs)
+    (λ c. search needs)
+    (λ c κs. search needs)
+    (λ c. search needs)
+    (λ c. search needs)
+    (λ c. search needs)
+    (λ c κs. search needs)
+    (λ c. search needs)
+    (λ c. search needs)
+    (λ c. search needs)
+    (λ c. search needs)
+    (λ c. search needs)
+    (λ c. search needs)
+    (λ c. search needs)
+    (λ c. search needs)
+    (λ c. search needs))
