@@ -5,6 +5,16 @@ use lib.ListN.{getD}
 use Rattle.parts.specs.Number.{withNumber}
 use Rattle.machine.specs.Size.{wordBytes}
 
+-- how many values a byte has, and the first values of a vector file and of a predicate file
+abbrev pub byteValues : ℕ
+byteValues = 256
+
+abbrev pub vectorSeed : ℕ
+vectorSeed = 3
+
+abbrev pub predicateSeed : ℕ
+predicateSeed = 5
+
 -- the value after this one
 abbrev pub nextValue : ℕ → ℕ
 nextValue value = (value * 7 + 11) % 251

@@ -4,20 +4,25 @@ ghost use Prim.Native.Nat.{_≤_, _<_};
 ghost use mathlib.Core.Path.{_≡_};
 ghost use lib.ListN.{length};
 ghost use Rattle.programs.specs.Word.{wordsOf};
-ghost use Rattle.fillings.specs.Filled.{filledFrom, filledWords};
+ghost use Rattle.fillings.specs.Filled.{byteValues, vectorSeed, predicateSeed, filledFrom, filledWords};
 
 // The bytes of the longest vector file and of the longest predicate file.
 pub const MOST_VECTORS: usize = Length::VECTORS * Length::MOST_BYTES;
 
 pub const MOST_PREDICATES: usize = Length::PREDICATES * Length::SEGMENT_PREDICATE * Length::MOST;
 
-// The values that a byte has: a cut that leaves each value as it is.
-const BYTE: u64 = 256;
+// How many values a byte has: a cut that leaves each value as it is.
+const BYTE_VALUES: u64 = 256;
+
+// The seeds of a vector file and of a predicate file.
+const VECTOR_SEED: u8 = 3;
+
+const PREDICATE_SEED: u8 = 5;
 
 // Fills bytes by the rule: the first value is the seed, each next is 7 times the last and 11, modulo 251; a byte is what is left of
 // its value after division by the cut.
 pub fn fill(bytes: &mut [u8], seed: u8, cut: u64)
-    requires { ⌜ (0 < cut) × (cut ≤ 256) ⌝ }
+    requires { ⌜ (0 < cut) × (cut ≤ byteValues) ⌝ }
     ensures { λ _. ⌜ now (bytes .exit) ≡ filledFrom cut (length (now (bytes .entry))) seed ⌝ }
 {
     let mut value = seed as u64;
@@ -30,13 +35,17 @@ pub fn fill(bytes: &mut [u8], seed: u8, cut: u64)
 }
 
 // Fills a vector file.
-pub fn fill_vectors(z: &mut [u8]) {
-    fill(z, 3, BYTE);
+pub fn fill_vectors(z: &mut [u8])
+    ensures { λ _. ⌜ now (z .exit) ≡ filledFrom byteValues (length (now (z .entry))) vectorSeed ⌝ }
+{
+    fill(z, VECTOR_SEED, BYTE_VALUES);
 }
 
 // Fills a predicate file.
-pub fn fill_predicates(p: &mut [u8]) {
-    fill(p, 5, BYTE);
+pub fn fill_predicates(p: &mut [u8])
+    ensures { λ _. ⌜ now (p .exit) ≡ filledFrom byteValues (length (now (p .entry))) predicateSeed ⌝ }
+{
+    fill(p, PREDICATE_SEED, BYTE_VALUES);
 }
 
 // How many words there are.

@@ -173,6 +173,14 @@ pub(crate) fn check_journal(k: usize, journal: &[u8]) -> u8
     }
 }
 
+// Sets a journal's bytes to zeros, those after its header too.
+fn clear(journal: &mut [u8])
+    requires { ⌜ headerBytes ≤ length (now journal) ⌝ }
+    ensures { λ _. ⌜ now (journal .exit) ≡ replicate (length (now (journal .entry))) 0 ⌝ }
+{
+    parts::clear(journal);
+}
+
 // Writes a fresh journal's bytes.
 pub(crate) fn put_fresh(k: usize, journal: &mut [u8])
     requires { ⌜ Headed k (now journal) ⌝ }
@@ -181,12 +189,4 @@ pub(crate) fn put_fresh(k: usize, journal: &mut [u8])
     clear(journal);
     let heading = heading(k);
     bytes::copy(&heading, journal);
-}
-
-// Sets a journal's bytes to zeros, those after its header too.
-fn clear(journal: &mut [u8])
-    requires { ⌜ headerBytes ≤ length (now journal) ⌝ }
-    ensures { λ _. ⌜ now (journal .exit) ≡ replicate (length (now (journal .entry))) 0 ⌝ }
-{
-    parts::clear(journal);
 }

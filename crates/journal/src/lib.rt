@@ -79,6 +79,15 @@ fn check_step(k: usize, z: &[u8], p: &[u8], program: &[u8], journal: &[u8]) -> u
     refusal::DONE
 }
 
+// Appends a word's entry, and executes the word.
+fn carry_out(k: usize, z: &mut [u8], p: &[u8], journal: &mut [u8], f: Fields)
+    requires { ⌜ CarryOut f k (state (now z) (now p)) (now journal) ⌝ }
+    ensures { λ _. ⌜ CarriedOut f k (state (now (z .entry)) (now (p .entry))) (now (journal .entry)) (now (z .exit)) (now (journal .exit)) ⌝ }
+{
+    entries::append(k, z, journal, f.d);
+    executes::execute(f, k, z, p);
+}
+
 // Executes the word at the position and appends its entry; or FULL, and all as it stood.
 fn perform(k: usize, z: &mut [u8], p: &[u8], journal: &mut [u8], f: Fields) -> u8
     requires { ⌜ Ready f k (state (now z) (now p)) (now journal) ⌝ }
@@ -89,15 +98,6 @@ fn perform(k: usize, z: &mut [u8], p: &[u8], journal: &mut [u8], f: Fields) -> u
     }
     carry_out(k, z, p, journal, f);
     refusal::DONE
-}
-
-// Appends a word's entry, and executes the word.
-fn carry_out(k: usize, z: &mut [u8], p: &[u8], journal: &mut [u8], f: Fields)
-    requires { ⌜ CarryOut f k (state (now z) (now p)) (now journal) ⌝ }
-    ensures { λ _. ⌜ CarriedOut f k (state (now (z .entry)) (now (p .entry))) (now (journal .entry)) (now (z .exit)) (now (journal .exit)) ⌝ }
-{
-    entries::append(k, z, journal, f.d);
-    executes::execute(f, k, z, p);
 }
 
 // Executes the word at the position, appends its entry and raises the count; or a refusal, and all as it stood.

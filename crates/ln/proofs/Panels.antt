@@ -10,10 +10,11 @@ use native.Mathlib.Omega.{arith}
 use lib.Dec.{ltb}
 use lib.ListN.{length}
 use borrow.Author.Tests.{lt-ltb, le-ltb}
+use Rattle.parts.specs.Part.{laid}
 use Rattle.machine.specs.Refusal.{DONE, OUT, RANGE, Test, First, inOrder, filesTests, refused}
 use Rattle.machine.proofs.Tests.{first-exactly, first-after, refused-early, kept, left}
-use Rattle.sums.specs.Calls.{inRange, panelRefused}
-use Rattle.ln.specs.Panel.{panelBytes, panelWrittenTests, panelWrittenRefused, panelLaid, PanelWritten}
+use Rattle.sums.specs.Calls.{inRange, panelRefused, panelAnswer}
+use Rattle.ln.specs.Panel.{panelBytes, joined, panelWrittenTests, panelWrittenRefused, panelLaid, PanelWritten}
 
 pub panel-written-in-order : (k : ℕ) (z p : List ℕ) (source predicate size n : ℕ) → inOrder (panelWrittenTests k z p source predicate size n) ≡ true
 panel-written-in-order k z p source predicate size n = refl
@@ -57,7 +58,9 @@ module _ (k : ℕ) (z p : List ℕ) (source predicate size : ℕ) (out : List �
       pub range-refuses : (r ≡ DONE → ⊥) → PanelWritten k z p source predicate size out r out
       range-refuses h = stood r number-is h
 
-      pub panel-laid : (after : List ℕ) → r ≡ DONE → after ≡ panelLaid k z p source predicate size out → PanelWritten k z p source predicate size out DONE after
-      panel-laid after done e =
+      pub panel-laid : (rows : List (List ℕ)) (after : List ℕ) → r ≡ DONE → rows ≡ panelAnswer k z p source predicate size → after ≡ laid (joined rows) out
+          → PanelWritten k z p source predicate size out DONE after
+      panel-laid rows after done is e =
+          let own : panelRefused k z p source predicate size ≡ DONE = sym answers ∙ done in
           let none = sym number-is ∙ done in
-          record { answered = sym none; bytes = e ∙ left _ (panelLaid k z p source predicate size out) out none }
+          record { answered = sym none; bytes = e ∙ rw (is, own) (left _ (panelLaid k z p source predicate size out) out none) }

@@ -5,8 +5,6 @@ ghost use Prim.Native.Nat.{_≤_};
 ghost use Rattle.machine.specs.Size.{mostLength};
 ghost use Rattle.journal.specs.Layout.{mostJournal};
 
-mod plain;
-
 // The directions of a run, their seed, and how many there are to choose from: one of three is back.
 const DIRECTIONS: usize = 1200;
 

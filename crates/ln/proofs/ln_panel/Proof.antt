@@ -43,10 +43,8 @@ returns-4 c =
     let r = c .before .before .before .before .before .before in
     let a = first r .args in
     let done = c .before .before .before .before .before .if3 .left in
-    let own = sym (r .panel-refusal .ensures) ∙ done in
     panel-laid (a .k) (now (a .z)) (now (a .p)) (a .source) (a .governing) (a .size) (now (a .out)) (right (r .before .before)) (r .before .if2 .left)
-    (r .panel-refusal .result) (r .panel-refusal .ensures) _ done
-    (c .before .before .write-rows .ensures ∙ rw (c .before .before .before .panel .ensures, own))
+    (r .panel-refusal .result) (r .panel-refusal .ensures) _ _ done (c .before .before .before .panel .ensures) (c .before .before .write-rows .ensures)
 
 pub ln-panel-spec : {M : Type 1} → statement M
 ln-panel-spec =

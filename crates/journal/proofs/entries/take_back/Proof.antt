@@ -2,8 +2,9 @@
 -- Assumes nothing.
 use borrow.Author.Needs.{needs}
 use Prim.Native.Nat.{ℕ, _-_}
-use mathlib.Core.Path.{_≡_, _∙_}
+use mathlib.Core.Path.{_≡_, _∙_, ap}
 use mathlib.Core.List.{List}
+use native.Mathlib.Omega.{arith}
 use denote.Ref.{now}
 use lib.ListN.{replicate}
 use Rattle.parts.specs.Part.{withPart}
@@ -38,10 +39,16 @@ restore-requires : tie.Need-restore-requires
 restore-requires c κs =
     let s = start (held c) in rw (held c .held-of .ensures) (s .pre .last)
 
+-- the entry's place is the last one's
+place : (c : tie.After-entry-bytes) →
+    let a = start (held (restored c .before)) .args in c .before .slot-at .result ≡ slotAt (a .k) (heldOf (now (a .journal)) - 1)
+place c =
+    let h = held (restored c .before) in
+    c .before .slot-at .ensures ∙ ap (λ (n : ℕ). slotAt (start h .args .k) (n - 1)) (h .held-of .ensures)
+
 clear-part-requires : tie.Need-clear-part-requires
 clear-part-requires c κs =
-    let h = held (restored c .before) in
-    rw (c .before .slot-at .ensures, c .entry-bytes .ensures, h .held-of .ensures) (start h .pre .last .entry .inside)
+    omega (arith, place c, c .entry-bytes .ensures, start (held (restored c .before)) .pre .last .entry .inside)
 
 returns : tie.Need-returns
 returns c =

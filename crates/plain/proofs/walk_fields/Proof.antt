@@ -4,8 +4,8 @@ use borrow.Author.Needs.{needs}
 use denote.Ref.{now}
 use Rattle.registers.specs.State.{state}
 use Rattle.executes.proofs.Sizes.{vector-in}
-use Rattle.trials.proofs.plain.walk_fields.Statement.{statement}
-use Rattle.trials.proofs.plain.walk_fields.Tie as tie
+use Rattle.plain.proofs.walk_fields.Statement.{statement}
+use Rattle.plain.proofs.walk_fields.Tie as tie
 
 register-requires : tie.Need-register-requires
 register-requires c κs =

@@ -4,12 +4,12 @@ use Prim.Native.Nat.{_+_, _-_, _≤_}
 use mathlib.Core.Path.{_≡_}
 use lib.ListN.{length}
 use borrow.Author.Needs.{needs}
-use Rattle.trials.proofs.plain.walk_words.Statement.{statement}
-use Rattle.trials.proofs.plain.walk_words.Tie as tie
+use Rattle.plain.proofs.walk_words.Statement.{statement}
+use Rattle.plain.proofs.walk_words.Tie as tie
 
 abbrev Inv-loop : tie.InvT-loop
 Inv-loop k z₀ p program journal₀ steps bytes at₀ i₀ z journal at i =
-    (at ≤ 8 + length journal₀) × (length z ≡ length z₀) × (length journal ≡ length journal₀)
+    (at ≤ at₀ + length journal₀) × (length z ≡ length z₀) × (length journal ≡ length journal₀)
 
 abbrev μ-loop : tie.MeasureT-loop
 μ-loop k z₀ p program journal₀ steps bytes at₀ i₀ z journal at i = steps - i

@@ -5,8 +5,8 @@ use mathlib.Core.Path.{sym, _∙_}
 use denote.Ref.{now}
 use Rattle.machine.proofs.Checks.{files-checked}
 use Rattle.words.proofs.Encoding.{decoded-in-range}
-use Rattle.trials.proofs.plain.walk_word.Statement.{statement}
-use Rattle.trials.proofs.plain.walk_word.Tie as tie
+use Rattle.plain.proofs.walk_word.Statement.{statement}
+use Rattle.plain.proofs.walk_word.Tie as tie
 
 abbrev start : tie.After-check-files → tie.Start
 start c = c .before .before .before .before .before
@@ -24,7 +24,9 @@ walk-fields-requires c κs =
     }
 
 pub walk-word-spec : {M : Type 1} → statement M
-walk-word-spec = tie.close (tie.spec
+walk-word-spec =
+    tie.close
+    (tie.spec
     (λ c κs. search needs)
     (λ c. search needs)
     (λ c. search needs)

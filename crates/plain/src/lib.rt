@@ -1,4 +1,4 @@
-// A plain walk: words decoded and executed in turn, and the journal that they must leave, laid out here. Nothing of the journal's code is used.
+// A plain walk: words decoded and executed in turn, and the journal that they must leave, laid out here without the journal's code.
 use machine::Length;
 use machine::refusal;
 use registers::Kind;
