@@ -221,8 +221,7 @@ pub extern "C" fn ln_step(
     journal: &mut [u8],
 ) -> u64
     ensures { λ r. ⌜ Stepped k (state (now (z .entry)) (now (p .entry))) (now (program .entry)) (now (journal .entry)) r
-        (state (now (z .exit)) (now (p .entry)))
-        (now (journal .exit)) ⌝ }
+        (state (now (z .exit)) (now (p .entry))) (now (journal .exit)) ⌝ }
 {
     journal::step(k, z, p, program, journal) as u64
 }
