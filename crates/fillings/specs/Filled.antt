@@ -1,6 +1,6 @@
 -- What the trials start from: bytes by a rule that a reader can repeat, and the words that they execute.
 use Prim.Native.Nat.{ℕ, zero, suc, _+_, _*_, _%_}
-use mathlib.Core.List.{List, [], _∷_}
+use mathlib.Core.List.{List, [], _∷_, _++_}
 use lib.ListN.{getD}
 use Rattle.parts.specs.Number.{withNumber}
 use Rattle.machine.specs.Size.{wordBytes}
@@ -27,18 +27,8 @@ filledFrom cut (suc count) value = value % cut ∷ filledFrom cut count (nextVal
 -- a word of every row, each with its destination among its sources
 abbrev pub familyWords : List ℕ
 familyWords =
-    0x04002463
-    ∷ 0x04C12463
-    ∷ 0x04452463
-    ∷ 0x4E303863
-    ∷ 0x6EB03863
-    ∷ 0x4444A463
-    ∷ 0x44C5A463
-    ∷ 0x45430063
-    ∷ 0x45830463
-    ∷ 0x45C30863
-    ∷ 0x45430C63
-    ∷ []
+    (0x04002463 ∷ 0x04C12463 ∷ 0x04452463 ∷ 0x4E303863 ∷ 0x6EB03863 ∷ [])
+    ++ (0x4444A463 ∷ 0x44C5A463 ∷ 0x45430063 ∷ 0x45830463 ∷ 0x45C30863 ∷ 0x45430C63 ∷ [])
 
 -- a program with so many of its first words replaced by these, one after the other and again from the first
 unfoldable pub filledWords : ℕ → List ℕ → List ℕ

@@ -4,18 +4,6 @@ use borrow.Author.Needs.{needs}
 use Rattle.parts.proofs.number_at.Statement.{statement}
 use Rattle.parts.proofs.number_at.Tie as tie
 
-returns : tie.Need-returns
-returns c = cc
-
-returns-2 : tie.Need-returns-2
-returns-2 c = cc
-
-returns-3 : tie.Need-returns-3
-returns-3 c = cc
-
-returns-4 : tie.Need-returns-4
-returns-4 c = cc
-
 pub number-at-spec : {M : Type 1} → statement M
 number-at-spec =
     tie.close
@@ -25,8 +13,8 @@ number-at-spec =
     (λ c κs. search needs)
     (λ c κs. search needs)
     (λ c κs. search needs)
-    returns
-    returns-2
-    returns-3
-    returns-4
+    (λ c. cc)
+    (λ c. cc)
+    (λ c. cc)
+    (λ c. cc)
     (λ c. search needs))

@@ -4,18 +4,6 @@ use borrow.Author.Needs.{needs}
 use Rattle.parts.proofs.put_number.Statement.{statement}
 use Rattle.parts.proofs.put_number.Tie as tie
 
-returns : tie.Need-returns
-returns c = cc
-
-returns-2 : tie.Need-returns-2
-returns-2 c = cc
-
-returns-3 : tie.Need-returns-3
-returns-3 c = cc
-
-returns-4 : tie.Need-returns-4
-returns-4 c = cc
-
 pub put-number-spec : {M : Type 1} → statement M
 put-number-spec =
     tie.close
@@ -26,12 +14,12 @@ put-number-spec =
     (λ c κs. search needs)
     (λ c κs. search needs)
     (λ c. search needs)
-    returns
+    (λ c. cc)
     (λ c. search needs)
-    returns-2
+    (λ c. cc)
     (λ c. search needs)
-    returns-3
+    (λ c. cc)
     (λ c. search needs)
-    returns-4
+    (λ c. cc)
     (λ c. search needs)
     (λ c. search needs))
