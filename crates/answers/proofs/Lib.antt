@@ -1,1 +1,4 @@
+pub mod Exact
+pub mod Matter
+pub mod Calls
 pub mod Step

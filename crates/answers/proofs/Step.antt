@@ -22,9 +22,9 @@ use Rattle.sums.specs.Panel.{perSegment, rowsSum}
 use Rattle.sums.specs.Calls.{panelAnswer, subtotalAnswer}
 use Rattle.executes.specs.Execute.{destinationAfter, integerAfter, widthFor, lanesFor, executed}
 use Rattle.executes.specs.Theorems.{isExact, isGoverned, governedOf, Agree}
-use Rattle.executes.proofs.Exact.{answer-modulo, answer-exact}
-use Rattle.executes.proofs.Matter.{only-active-matters}
-use Rattle.executes.proofs.Calls.{register-after, subtotal-is-the-sum, addqv-adds-the-panel}
+use Rattle.answers.proofs.Exact.{answer-modulo, answer-exact}
+use Rattle.answers.proofs.Matter.{only-active-matters}
+use Rattle.answers.proofs.Calls.{register-after, subtotal-is-the-sum, addqv-adds-the-panel}
 use Rattle.journal.specs.Calls.{fieldsNow, Stepped}
 use Rattle.journal.proofs.Accepted.{AcceptedStep, step-accepted}
 

@@ -4,6 +4,3 @@ pub mod Sizes
 pub mod Summed
 pub mod InPlace
 pub mod LowWritten
-pub mod Exact
-pub mod Matter
-pub mod Calls

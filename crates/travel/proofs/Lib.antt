@@ -1,3 +1,6 @@
+pub mod Closed
+pub mod Undone
+pub mod Frame
 pub mod Walked
 pub mod Demand3
 pub mod Directed

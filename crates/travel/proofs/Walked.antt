@@ -20,8 +20,8 @@ use Rattle.journal.specs.Layout.{isRoom, capacity, heldOf, Entry, journalOf, pu
 use Rattle.journal.specs.Calls.{entryFor, restored, stepRefused, stepState, stepJournal, backRefused, backState, backJournal}
 use Rattle.journal.proofs.Places.{slots-inside, room-least}
 use Rattle.journal.proofs.Accepted.{executable, step-accepted, back-accepted}
-use Rattle.journal.proofs.Closed.{EntriesSized, RoomAfter, sized-more, length-closed, held-closed, pushed-closed, last-closed, popped-closed}
-use Rattle.journal.proofs.Undone.{old-whole, executed-sized, restored-executed}
+use Rattle.travel.proofs.Closed.{EntriesSized, RoomAfter, sized-more, length-closed, held-closed, pushed-closed, last-closed, popped-closed}
+use Rattle.travel.proofs.Undone.{old-whole, executed-sized, restored-executed}
 use Rattle.travel.specs.Walk.{fieldsIn, walkedState, walkedEntries, Walkable}
 use Rattle.travel.specs.Travel.{AsWalked}
 

@@ -24,8 +24,8 @@ use Rattle.journal.specs.Calls.{freshAfter, fieldsNow, entryFor, stepRefused, s
 use Rattle.journal.proofs.Places.{slot-next}
 use Rattle.journal.proofs.Accepted.{step-accepted}
 use Rattle.journal.proofs.Written.{entry-room, length-pushed, held-pushed}
-use Rattle.journal.proofs.Undone.{step-room}
-use Rattle.journal.proofs.Closed.{length-closed}
+use Rattle.travel.proofs.Undone.{step-room}
+use Rattle.travel.proofs.Closed.{length-closed}
 use Rattle.session.specs.declared.Session.{Session}
 use Rattle.session.specs.Layout.{sessionOf, programPart}
 use Rattle.lines.specs.Line.{mostLine, sessionLine, Written}

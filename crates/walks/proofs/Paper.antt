@@ -19,8 +19,8 @@ use Rattle.journal.specs.Calls.{wordNow, fieldsNow, entryFor, stepRefused, step
 use Rattle.journal.proofs.Formed.{Formed, formed-room, formed-journal}
 use Rattle.journal.proofs.Accepted.{step-accepted}
 use Rattle.journal.proofs.Written.{held-pushed, formed-pushed}
-use Rattle.journal.proofs.Undone.{step-room, executed-sized}
-use Rattle.journal.proofs.Closed.{length-closed, held-closed}
+use Rattle.travel.proofs.Undone.{step-room, executed-sized}
+use Rattle.travel.proofs.Closed.{length-closed, held-closed}
 use Rattle.session.specs.declared.Session.{Session}
 use Rattle.session.specs.Layout.{sessionOf, programPart, Parts}
 use Rattle.session.proofs.Reading.{session-parts}

@@ -26,13 +26,13 @@ use Rattle.sums.specs.Calls.{panelRefused, panelAnswer, subtotalAnswer}
 use Rattle.sums.proofs.Accepted.{panel-done, panel-accepted, whole-segments}
 use Rattle.sums.proofs.Answers.{subtotal-of-all}
 use Rattle.sums.proofs.Columns.{addqv-is-column-sums}
 use Rattle.executes.specs.Execute.{operandsOf, maskOf, destinationAfter, writtenFor, executed}
 use Rattle.executes.specs.Needs.{Executable}
 use Rattle.executes.proofs.Padded.{padded-padded}
 use Rattle.executes.proofs.Sizes.{k-least, vector-in, length-destination, low-written-fits}
 use Rattle.executes.proofs.Summed.{reduction-sum}
 use Rattle.executes.proofs.LowWritten.{written-segment}
-use Rattle.executes.proofs.Exact.{answer-modulo}
+use Rattle.answers.proofs.Exact.{answer-modulo}
 
 module _ (f : Fields) (k : ℕ) (s : State) (x : Executable f k s) where
   -- the destination register of the state that a word leaves
