@@ -11,7 +11,6 @@ use Rattle.names.proofs.Naming.{text-determined}
 use Rattle.assembles.specs.Assembled.{Assembled}
 use Rattle.assembles.proofs.Theorems.{assemble-determined}
 use Rattle.programs.specs.Word.{nextWord}
-use Rattle.sums.specs.Calls.{subtotalAnswer}
 use Rattle.journal.specs.Calls.{Freshened, Stepped, Backed}
 use Rattle.journal.proofs.Answers.{fresh-determined, step-determined, back-determined}
 use Rattle.session.specs.Layout.{sessionOf}
@@ -22,11 +21,12 @@ use Rattle.ln.specs.declared.LnFields.{LnFields}
 use Rattle.ln.specs.declared.LnPlace.{LnPlace}
 use Rattle.ln.specs.declared.LnSession.{LnSession}
 use Rattle.ln.specs.declared.LnWord.{LnWord}
-use Rattle.ln.specs.Outside.{isSet, answerOut, answerIn, decodedOut, kindOf, placeFor, sessionOut, wordOut}
+use Rattle.ln.specs.Outside.{answerOut, answerIn, decodedOut, sessionOut, wordOut}
 use Rattle.ln.specs.Panel.{PanelWritten}
+use Rattle.ln.specs.Posts.{WordDecoded, WordRead, SessionRead, RegisterPlaced, Subtotalled}
 use Rattle.ln.proofs.Panels.{panel-written-determined}
 
-pub ln-decode-determined : (word : ℕ) (r q : LnFields) → r ≡ decodedOut (decoded word) → q ≡ decodedOut (decoded word) → r ≡ q
+pub ln-decode-determined : (word : ℕ) (r q : LnFields) → WordDecoded word r → WordDecoded word q → r ≡ q
 ln-decode-determined word = one-result (decodedOut (decoded word))
 
 pub ln-text-determined : (word : ℕ) (out a b : List ℕ) (r q : LnAnswer) → Named word out a (answerIn r) → Named word out b (answerIn q) → (r ≡ q) × (a ≡ b)
@@ -36,10 +36,10 @@ ln-text-determined word out a b r q x y =
 pub ln-assemble-determined : (text : List ℕ) (r q : LnAnswer) → Assembled text (answerIn r) → Assembled text (answerIn q) → r ≡ q
 ln-assemble-determined text r q x y = ap answerOut (assemble-determined text (answerIn r) (answerIn q) x y)
 
-pub ln-read-word-determined : (program : List ℕ) (at : ℕ) (r q : LnWord) → r ≡ wordOut (nextWord program at) → q ≡ wordOut (nextWord program at) → r ≡ q
+pub ln-read-word-determined : (program : List ℕ) (at : ℕ) (r q : LnWord) → WordRead program at r → WordRead program at q → r ≡ q
 ln-read-word-determined program at = one-result (wordOut (nextWord program at))
 
-pub ln-read-session-determined : (bytes : List ℕ) (r q : LnSession) → r ≡ sessionOut (sessionOf bytes) → q ≡ sessionOut (sessionOf bytes) → r ≡ q
+pub ln-read-session-determined : (bytes : List ℕ) (r q : LnSession) → SessionRead bytes r → SessionRead bytes q → r ≡ q
 ln-read-session-determined bytes = one-result (sessionOut (sessionOf bytes))
 
 pub ln-fresh-determined : (k : ℕ) (journal : List ℕ) (r q : ℕ) (a b : List ℕ) → Freshened k journal r a → Freshened k journal q b → (r ≡ q) × (a ≡ b)
@@ -48,13 +48,13 @@ ln-fresh-determined = fresh-determined
 -- calls on both files
 module _ (k : ℕ) (s : State) where
   pub ln-subtotal-determined : (source governing size is-signed a b : ℕ) (r q : LnAnswer)
-      → r ≡ answerOut (subtotalAnswer k (s .z) (s .p) source governing size (isSet is-signed) a b)
-      → q ≡ answerOut (subtotalAnswer k (s .z) (s .p) source governing size (isSet is-signed) a b)
+      → Subtotalled k (s .z) (s .p) source governing size is-signed a b r
+      → Subtotalled k (s .z) (s .p) source governing size is-signed a b q
       → r ≡ q
   ln-subtotal-determined source governing size is-signed a b = one-result _
 
-  pub ln-register-place-determined : (predicate number : ℕ) (r q : LnPlace) → r ≡ placeFor k (s .z) (s .p) (kindOf (isSet predicate)) number
-      → q ≡ placeFor k (s .z) (s .p) (kindOf (isSet predicate)) number
+  pub ln-register-place-determined : (predicate number : ℕ) (r q : LnPlace) → RegisterPlaced k (s .z) (s .p) predicate number r
+      → RegisterPlaced k (s .z) (s .p) predicate number q
       → r ≡ q
   ln-register-place-determined predicate number = one-result _
 

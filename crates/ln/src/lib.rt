@@ -17,6 +17,7 @@ ghost use Rattle.sums.specs.Calls.{subtotalAnswer};
 ghost use Rattle.journal.specs.Calls.{Freshened, Stepped, Backed};
 ghost use Rattle.session.specs.Layout.{sessionOf};
 ghost use Rattle.lines.specs.Line.{LineWritten};
+ghost use Rattle.ln.specs.Posts.{WordDecoded, WordRead, SessionRead, RegisterPlaced, Subtotalled};
 ghost use Rattle.ln.specs.Panel.{panelBytes, joined, PanelWritten};
 ghost use Rattle.ln.specs.Outside.{isSet, answerOut, answerIn, decodedOut, fieldsOut, flagOf, kindOf, placeFor, sessionOut, wordOut};
 
@@ -73,7 +74,7 @@ pub struct LnSession {
 // A word's fields, or UNKNOWN or UNDEFINED.
 #[no_mangle]
 pub extern "C" fn ln_decode(word: u32) -> LnFields
-    ensures { λ r. ⌜ r ≡ decodedOut (decoded word) ⌝ }
+    ensures { λ r. ⌜ WordDecoded word r ⌝ }
 {
     match words::decode(word) {
         Decoded::Word(f) => LnFields {
@@ -144,7 +145,7 @@ pub extern "C" fn ln_subtotal(
     a: usize,
     b: usize,
 ) -> LnAnswer
-    ensures { λ r. ⌜ r ≡ answerOut (subtotalAnswer k (now (z .entry)) (now (p .entry)) source governing size (isSet «is_signed») a b) ⌝ }
+    ensures { λ r. ⌜ Subtotalled k (now (z .entry)) (now (p .entry)) source governing size «is_signed» a b r ⌝ }
 {
     let signed = is_signed != 0;
     let answer = sums::subtotal(k, z, p, source, governing, size, signed, a, b);
@@ -157,7 +158,7 @@ pub extern "C" fn ln_subtotal(
 // The word at a place of a program with the place after it, or PROGRAM or END.
 #[no_mangle]
 pub extern "C" fn ln_read_word(program: &[u8], at: usize) -> LnWord
-    ensures { λ r. ⌜ r ≡ wordOut (nextWord (now (program .entry)) at) ⌝ }
+    ensures { λ r. ⌜ WordRead (now (program .entry)) at r ⌝ }
 {
     let next = programs::next_word(program, at);
     LnWord {
@@ -170,7 +171,7 @@ pub extern "C" fn ln_read_word(program: &[u8], at: usize) -> LnWord
 // Where a session's parts lie, or SESSION.
 #[no_mangle]
 pub extern "C" fn ln_read_session(bytes: &[u8]) -> LnSession
-    ensures { λ r. ⌜ r ≡ sessionOut (sessionOf (now (bytes .entry))) ⌝ }
+    ensures { λ r. ⌜ SessionRead (now (bytes .entry)) r ⌝ }
 {
     let session = session::read_session(bytes);
     LnSession {
@@ -243,7 +244,7 @@ pub extern "C" fn ln_register_place(
     predicate: u64,
     number: usize,
 ) -> LnPlace
-    ensures { λ r. ⌜ r ≡ placeFor k (now (z .entry)) (now (p .entry)) (kindOf (isSet predicate)) number ⌝ }
+    ensures { λ r. ⌜ RegisterPlaced k (now (z .entry)) (now (p .entry)) predicate number r ⌝ }
 {
     if predicate == 0 {
         place_of(k, z, p, Kind::Vector, number)

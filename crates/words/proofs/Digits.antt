@@ -2,12 +2,16 @@
 -- Assumes nothing.
 use mathlib.Core.Path.{_≡_, refl, sym, _∙_, ap, ap₂}
 use Prim.Native.Nat.{ℕ, zero, suc, _+_, _*_, _-_, _/_, _%_, _^_, min, _<_}
-use native.Mathlib.Nat.{pow-suc, div-lt-iff-lt-mul, mod-lt, mod-eq-of-lt, min-comm}
+use native.Mathlib.Nat.{one-mul, pow-suc, div-lt-iff-lt-mul, mod-lt, mod-eq-of-lt, min-comm}
 use native.Mathlib.Omega.{arith}
 use lib.Arith.{lt-one}
 use lib.Bits.{bitAnd, and-step, and-mask}
-use lib.Pow.{pow-pos}
+use lib.Pow.{pow-pos, pow-lt}
 use Rattle.words.specs.Digits.{digitsAnd, field}
+
+-- a one that is shifted up stays within the digits of its number
+pub one-shifted : (n count : ℕ) → count < n → 1 * 2 ^ count % 2 ^ n ≡ 2 ^ count
+one-shifted n count h = ap (λ (x : ℕ). x % 2 ^ n) (one-mul (2 ^ count)) ∙ mod-eq-of-lt (pow-lt {i = count} {j = n} h)
 
 -- half of a number of n + 1 digits has n
 half-below : (n a : ℕ) → a < 2 ^ suc n → a / 2 < 2 ^ n

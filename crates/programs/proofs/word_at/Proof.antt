@@ -13,5 +13,9 @@ cast-result c =
       fits = rw (c .number-at .ensures) (word-lt (now (c .before .before .args .program)) (c .before .before .args .i) (λ j. omega (arith, c .before .shared-slice-known .given j)));
     }
 
+-- the word is the number of the four bytes at its place
+returns : tie.Need-returns
+returns c = search needs
+
 pub word-at-spec : {M : Type 1} → statement M
-word-at-spec = tie.close (tie.spec (λ c. search needs) (λ c κs. search needs) cast-result (λ c. search needs))
+word-at-spec = tie.close (tie.spec (λ c. search needs) (λ c κs. search needs) cast-result returns)

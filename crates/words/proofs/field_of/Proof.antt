@@ -1,21 +1,17 @@
 -- `field_of` meets its contract: a shift down divides by a power of two, and the one that is shifted up stays within the word.
 -- Assumes nothing.
 use borrow.Author.Needs.{needs}
-use mathlib.Core.Path.{_≡_, _∙_}
-use Prim.Native.Nat.{ℕ, _*_, _/_, _%_, _^_, _<_}
-use native.Mathlib.Nat.{one-mul, mod-le, div-le-self}
+use Prim.Native.Nat.{_*_, _/_, _%_, _^_}
+use native.Mathlib.Nat.{mod-le, div-le-self}
 use native.Mathlib.Omega.{arith}
-use lib.Pow.{pow-pos, shl-exact}
+use lib.Pow.{pow-pos}
 use Rattle.words.specs.Digits.{wordDigits}
+use Rattle.words.proofs.Digits.{one-shifted}
 use Rattle.words.proofs.field_of.Statement.{statement}
 use Rattle.words.proofs.field_of.Tie as tie
 
--- the power of two fits the word
-power : (count : ℕ) → count < wordDigits → 1 * 2 ^ count % 2 ^ wordDigits ≡ 2 ^ count
-power count h = shl-exact 1 count wordDigits (omega arith) (omega arith) ∙ one-mul _
-
 rem-result : tie.Need-rem-result
-rem-result c = rw (power (c .args .count) (c .pre .1)) (pow-pos (c .args .count))
+rem-result c = rw (one-shifted wordDigits (c .args .count) (c .pre .1)) (pow-pos (c .args .count))
 
 cast-result : tie.Need-cast-result
 cast-result c =
@@ -26,7 +22,7 @@ cast-result c =
     )
 
 returns : tie.Need-returns
-returns c = rw (power (c .args .count) (c .pre .1))
+returns c = rw (one-shifted wordDigits (c .args .count) (c .pre .1))
 
 pub field-of-spec : {M : Type 1} → statement M
 field-of-spec = tie.close (tie.spec (λ c. search needs) (λ c. search needs) rem-result cast-result returns)

@@ -1,0 +1,34 @@
+-- What the exported calls that write no byte promise of their answers, a name for each.
+use Prim.Native.Nat.{ℕ}
+use mathlib.Core.Path.{_≡_}
+use mathlib.Core.List.{List}
+use Rattle.words.specs.Decode.{decoded}
+use Rattle.programs.specs.Word.{nextWord}
+use Rattle.sums.specs.Calls.{subtotalAnswer}
+use Rattle.session.specs.Layout.{sessionOf}
+use Rattle.ln.specs.declared.LnAnswer.{LnAnswer}
+use Rattle.ln.specs.declared.LnFields.{LnFields}
+use Rattle.ln.specs.declared.LnPlace.{LnPlace}
+use Rattle.ln.specs.declared.LnSession.{LnSession}
+use Rattle.ln.specs.declared.LnWord.{LnWord}
+use Rattle.ln.specs.Outside.{isSet, answerOut, decodedOut, kindOf, placeFor, sessionOut, wordOut}
+
+-- the number and the fields of a word
+abbrev pub WordDecoded : ℕ → LnFields → Type 0
+WordDecoded word r = r ≡ decodedOut (decoded word)
+
+-- a program's word at a place, and the place after it
+abbrev pub WordRead : List ℕ → ℕ → LnWord → Type 0
+WordRead program at r = r ≡ wordOut (nextWord program at)
+
+-- a session's parts
+abbrev pub SessionRead : List ℕ → LnSession → Type 0
+SessionRead bytes r = r ≡ sessionOut (sessionOf bytes)
+
+-- the place of a register of the kind that a flag names
+abbrev pub RegisterPlaced : ℕ → List ℕ → List ℕ → ℕ → ℕ → LnPlace → Type 0
+RegisterPlaced k z p predicate number r = r ≡ placeFor k z p (kindOf (isSet predicate)) number
+
+-- the sum of the active lanes from a up to but without b, signed where the flag says so
+abbrev pub Subtotalled : ℕ → List ℕ → List ℕ → ℕ → ℕ → ℕ → ℕ → ℕ → ℕ → LnAnswer → Type 0
+Subtotalled k z p source governing size signed a b r = r ≡ answerOut (subtotalAnswer k z p source governing size (isSet signed) a b)
