@@ -3,7 +3,7 @@
 use mathlib.Core.Path.{_≡_, refl, _∙_, ap}
 use mathlib.Core.Bool.{Bool, true, false}
 use mathlib.Core.List.{List, [], _∷_, _++_, append-assoc}
-use Prim.Native.Nat.{ℕ, _/_, _%_, _<_}
+use Prim.Native.Nat.{ℕ, zero, suc, _/_, _%_, _<_}
 use native.Mathlib.Nat.{mod-lt}
 use native.Mathlib.Omega.{arith}
 use lib.Dec.{eqb}
@@ -15,9 +15,9 @@ use Rattle.words.proofs.Every.{every, at-each}
 use Rattle.names.specs.declared.Suffix.{Suffix}
 use Rattle.names.specs.declared.Suffix.the-variants.{Plain, Lane, Lanes, Merging}
 use Rattle.names.specs.declared.Operand.{Operand}
-use Rattle.names.specs.Digits.{digitOf, decimal}
+use Rattle.names.specs.Digits.{digitOf, decimalWidth, decimal}
 use Rattle.names.specs.Text.{suffixText, following, listed}
-use Rattle.names.proofs.Decimals.{Width, one, two, three, four, five, width, decimal-one, decimal-two}
+use Rattle.names.proofs.Decimals.{width-least, width-below, decimal-holds, decimal-one, decimal-two}
 use Rattle.assembles.specs.Reading.{worth, isDigit, numberIn}
 
 -- a digit is one, and is worth its value
@@ -37,14 +37,13 @@ digit-is n =
 -- a number below 100 after a letter, and no digit after it
 number-back : (l n : ℕ) (s : List ℕ) → n < 100 → isDigit (getD s 0 0) ≡ false → numberIn (l ∷ decimal n ++ s) ≡ n
 unfolding numberIn
-number-back l n s h e = go (width n)
+number-back l n s h e = go (decimalWidth n) refl
   where
-    go : Width n → numberIn (l ∷ decimal n ++ s) ≡ n
-    go (one a w) = rw (decimal-one n w, e) (omega (arith, digit-is n .1))
-    go (two a b w) = rw (decimal-two n w, digit-is n .0) (omega (arith, digit-is n .1, digit-is (n / 10) .1))
-    go (three a b w) = absurd (omega arith)
-    go (four a b w) = absurd (omega arith)
-    go (five a w) = absurd (omega arith)
+    go : (w : ℕ) → decimalWidth n ≡ w → numberIn (l ∷ decimal n ++ s) ≡ n
+    go zero w = absurd (omega (arith, width-least n))
+    go 1 w = rw (decimal-one n w, e) (omega (arith, digit-is n .1, rw w at (decimal-holds n (omega arith))))
+    go 2 w = rw (decimal-two n w, digit-is n .0) (omega (arith, digit-is n .1, digit-is (n / 10) .1))
+    go (suc (suc (suc more))) w = absurd (omega (arith, width-below 1 n h))
 
 -- what follows a number begins with no digit
 suffix-tail : (s : Suffix) (rest : List ℕ) → isDigit (getD rest 0 0) ≡ false → isDigit (getD (suffixText s ++ rest) 0 0) ≡ false

@@ -4,12 +4,13 @@ use mathlib.Core.Path.{_≡_, refl, sym, _∙_, ap}
 use mathlib.Core.Bool.{Bool, true, false}
 use mathlib.Core.List.{List, [], _∷_, _++_}
 use Prim.Native.Nat.{ℕ, zero, suc, _+_, _-_, _/_, _%_, _^_, _≤_, _<_}
+use native.Mathlib.Nat.{pow-suc}
 use native.Mathlib.Omega.{arith}
 use lib.Dec.{ltb}
 use lib.ListN.{length, length-append, set}
 use lib.Seq.{sets, set-comm}
 use borrow.Author.Tests.{ltb-true, ltb-false}
-use Rattle.names.specs.Digits.{digitOf, digitsIn, decimalWidth, decimal}
+use Rattle.names.specs.Digits.{digitOf, digitsIn, mostDigits, widthWithin, decimalWidth, decimal}
 use Rattle.names.proofs.Puts.{put-then, put-one}
 
 -- so many digits
@@ -43,45 +44,116 @@ digits-next l at base zero rest d h e = absurd (omega arith)
 digits-next l at base (suc j) rest d h e =
     rw (suc-sub-one j, ← e) (byte-past l at j d (digitsIn base j (rest / base)) (digits-length base j (rest / base)))
 
--- how many digits a decimal has, by its number
-pub data Width (n : ℕ) : Type 0 where
-  one : n < 10 → decimalWidth n ≡ 1 → Width n
-  two : 10 ≤ n → n < 100 → decimalWidth n ≡ 2 → Width n
-  three : 100 ≤ n → n < 1000 → decimalWidth n ≡ 3 → Width n
-  four : 1000 ≤ n → n < 10000 → decimalWidth n ≡ 4 → Width n
-  five : 10000 ≤ n → decimalWidth n ≡ 5 → Width n
+-- a number without its last digit has a digit less
+pub div-ten-below : (n m : ℕ) → n < 10 ^ suc m → n / 10 < 10 ^ m
+div-ten-below n m h = omega (arith, pow-suc 10 m)
 
-pub width : (n : ℕ) → Width n
-unfolding decimalWidth
-width n = go (ltb n 10) (ltb n 100) (ltb n 1000) (ltb n 10000) refl refl refl refl
+-- how many digits a number has, by its tenth: one, or one more than the tenth has
+pub data Width (more n : ℕ) : Type 0 where
+  one : n < 10 → widthWithin (suc more) n ≡ 1 → Width more n
+  further : 10 ≤ n → widthWithin (suc more) n ≡ suc (widthWithin more (n / 10)) → Width more n
+
+pub width : (more n : ℕ) → Width more n
+unfolding widthWithin
+width more n = go (ltb n 10) refl
   where
-    go : (a b c d : Bool) → ltb n 10 ≡ a → ltb n 100 ≡ b → ltb n 1000 ≡ c → ltb n 10000 ≡ d → Width n
-    go true b c d p q r s = one (ltb-true _ _ p) (rw p)
-    go false true c d p q r s = two (ltb-false _ _ p) (ltb-true _ _ q) (rw (p, q))
-    go false false true d p q r s = three (ltb-false _ _ q) (ltb-true _ _ r) (rw (p, q, r))
-    go false false false true p q r s = four (ltb-false _ _ r) (ltb-true _ _ s) (rw (p, q, r, s))
-    go false false false false p q r s = five (ltb-false _ _ s) (rw (p, q, r, s))
+    go : (b : Bool) → ltb n 10 ≡ b → Width more n
+    go true e = one (ltb-true n 10 e) (rw e)
+    go false e = further (ltb-false n 10 e) (rw e)
+
+-- no more digits are counted than asked for
+within-most : (most n : ℕ) → widthWithin most n ≤ most
+unfolding widthWithin
+within-most zero n = omega arith
+within-most (suc more) n = go (width more n) (within-most more (n / 10))
+  where
+    go : Width more n → widthWithin more (n / 10) ≤ more → widthWithin (suc more) n ≤ suc more
+    go (one h e) few = omega arith
+    go (further h e) few = omega arith
+
+-- a greater number has no fewer digits
+within-grows : (most a b : ℕ) → a ≤ b → widthWithin most a ≤ widthWithin most b
+unfolding widthWithin
+within-grows zero a b h = omega arith
+within-grows (suc more) a b h = go (width more a) (width more b) (within-grows more (a / 10) (b / 10) (omega arith))
+  where
+    go : Width more a → Width more b → widthWithin more (a / 10) ≤ widthWithin more (b / 10) → widthWithin (suc more) a ≤ widthWithin (suc more) b
+    go (one p e) (one q f) grow = omega arith
+    go (one p e) (further q f) grow = omega arith
+    go (further p e) (one q f) grow = absurd (omega arith)
+    go (further p e) (further q f) grow = omega arith
+
+-- a number below a power of ten has no more digits than that power
+within-below : (most m n : ℕ) → n < 10 ^ suc m → widthWithin most n ≤ suc m
+unfolding widthWithin
+within-below zero m n h = omega arith
+within-below (suc more) zero n h = go (width more n)
+  where
+    go : Width more n → widthWithin (suc more) n ≤ 1
+    go (one p e) = omega arith
+    go (further p e) = absurd (omega arith)
+within-below (suc more) (suc m) n h = go (width more n) (within-below more m (n / 10) (div-ten-below n (suc m) h))
+  where
+    go : Width more n → widthWithin more (n / 10) ≤ suc m → widthWithin (suc more) n ≤ suc (suc m)
+    go (one p e) few = omega arith
+    go (further p e) few = omega arith
+
+-- as many digits as a number has hold it
+within-holds : (most n : ℕ) → n < 10 ^ most → n < 10 ^ widthWithin most n
+unfolding widthWithin
+within-holds zero n h = h
+within-holds (suc more) n h = go (width more n) (within-holds more (n / 10) (div-ten-below n more h))
+  where
+    go : Width more n → n / 10 < 10 ^ widthWithin more (n / 10) → n < 10 ^ widthWithin (suc more) n
+    go (one p e) held = rw e p
+    go (further p e) held = rw e (omega (arith, pow-suc 10 (widthWithin more (n / 10))))
+
+-- the first of two digits or more is no zero
+within-least : (most w n : ℕ) → widthWithin most n ≡ suc (suc w) → 10 ^ suc w ≤ n
+unfolding widthWithin
+within-least zero w n e = absurd (omega arith)
+within-least (suc more) zero n e = go (width more n)
+  where
+    go : Width more n → 10 ≤ n
+    go (one p f) = absurd (omega arith)
+    go (further p f) = p
+within-least (suc more) (suc w) n e = go (width more n) (λ f. within-least more w (n / 10) f)
+  where
+    go : Width more n → (widthWithin more (n / 10) ≡ suc (suc w) → 10 ^ suc w ≤ n / 10) → 10 ^ suc (suc w) ≤ n
+    go (one p f) least = absurd (omega arith)
+    go (further p f) least = omega (arith, pow-suc 10 (suc w), least (omega arith))
+
+-- the same of a number of 64 bits
+pub width-most : (n : ℕ) → decimalWidth n ≤ mostDigits
+unfolding decimalWidth
+width-most n = within-most mostDigits n
+
+pub width-least : (n : ℕ) → 1 ≤ decimalWidth n
+unfolding decimalWidth widthWithin
+width-least n = omega arith
+
+pub width-grows : (a b : ℕ) → a ≤ b → decimalWidth a ≤ decimalWidth b
+unfolding decimalWidth
+width-grows a b h = within-grows mostDigits a b h
+
+pub width-below : (m n : ℕ) → n < 10 ^ suc m → decimalWidth n ≤ suc m
+unfolding decimalWidth
+width-below m n h = within-below mostDigits m n h
+
+pub decimal-holds : (n : ℕ) → n < 2 ^ 64 → n < 10 ^ decimalWidth n
+unfolding decimalWidth
+decimal-holds n h = within-holds mostDigits n (omega arith)
+
+pub no-leading-zero : (w n : ℕ) → decimalWidth n ≡ suc (suc w) → 10 ^ suc w ≤ n
+unfolding decimalWidth
+no-leading-zero w n e = within-least mostDigits w n e
 
 -- a decimal has a digit, and one of a number below 100 two at most
 pub decimal-least : (n : ℕ) → 1 ≤ length (decimal n)
-decimal-least n = rw digits-length (go (width n))
-  where
-    go : Width n → 1 ≤ decimalWidth n
-    go (one a e) = omega arith
-    go (two a b e) = omega arith
-    go (three a b e) = omega arith
-    go (four a b e) = omega arith
-    go (five a e) = omega arith
+decimal-least n = rw digits-length (width-least n)
 
 pub decimal-short : (n : ℕ) → n < 100 → length (decimal n) ≤ 2
-decimal-short n h = rw digits-length (go (width n))
-  where
-    go : Width n → decimalWidth n ≤ 2
-    go (one a e) = omega arith
-    go (two a b e) = omega arith
-    go (three a b e) = absurd (omega arith)
-    go (four a b e) = absurd (omega arith)
-    go (five a e) = absurd (omega arith)
+decimal-short n h = rw digits-length (width-below 1 n h)
 
 -- those of one digit and of two
 pub decimal-one : (n : ℕ) → decimalWidth n ≡ 1 → decimal n ≡ digitOf (n % 10) ∷ []
@@ -91,14 +163,3 @@ decimal-one n e = rw e
 pub decimal-two : (n : ℕ) → decimalWidth n ≡ 2 → decimal n ≡ digitOf (n / 10 % 10) ∷ digitOf (n % 10) ∷ []
 unfolding digitsIn
 decimal-two n e = rw e
-
--- as many digits as a number of 16 bits has hold it
-pub decimal-holds : (n : ℕ) → n < 2 ^ 16 → n < 10 ^ decimalWidth n
-decimal-holds n h = go (width n)
-  where
-    go : Width n → n < 10 ^ decimalWidth n
-    go (one a e) = rw e a
-    go (two a b e) = rw e b
-    go (three a b e) = rw e b
-    go (four a b e) = rw e b
-    go (five a e) = rw e (omega arith)

@@ -27,7 +27,7 @@ use Rattle.words.proofs.Decoding.{governing-below, second-below, q-below}
 use Rattle.words.proofs.Encoding.{decoded-in-range}
 use Rattle.words.proofs.Every.{every, at-each}
 use Rattle.names.specs.declared.Operand.{Operand}
-use Rattle.names.specs.Digits.{digitOf, digitsIn, decimalWidth, decimal}
+use Rattle.names.specs.Digits.{digitOf, digitsIn, widthWithin, decimalWidth, decimal}
 use Rattle.names.specs.Text.{keyOf, nameOf, letterOf, lanesOf, operandText, whereIn, further, following, listed, destinationOperand, governingOperand, sourceOperand, operandsNamed, textOf}
 use Rattle.names.specs.Named.{leastOut, mostText, textOfDecoded, textOfWord}
 use Rattle.names.proofs.Puts.{room-first}
@@ -148,5 +148,5 @@ word-length word = go (decoded word) refl
 
 -- and one has as many
 pub longest-text : textOfWord 0x45DF03FF ≡ bytes "saddlb z31.d, z31.s, z31.s"
-unfolding decoded rowAt rowOf placeFrom matches digitsAnd textOf keyOf nameOf digitOf digitsIn decimalWidth letterOf
+unfolding decoded rowAt rowOf placeFrom matches digitsAnd textOf keyOf nameOf digitOf digitsIn widthWithin decimalWidth letterOf
 longest-text = refl

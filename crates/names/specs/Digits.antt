@@ -18,10 +18,19 @@ unfoldable pub digitsIn : ℕ → ℕ → ℕ → List ℕ
 digitsIn base zero n = []
 digitsIn base (suc count) n = digitsIn base count (n / base) ++ digitOf (n % base) ∷ []
 
--- how many decimal digits a number of 16 bits has
-unfoldable pub decimalWidth : ℕ → ℕ
-decimalWidth n = cond (ltb n 10) 1 (cond (ltb n 100) 2 (cond (ltb n 1000) 3 (cond (ltb n 10000) 4 5)))
+-- the decimal digits of the greatest number of 64 bits
+abbrev pub mostDigits : ℕ
+mostDigits = 20
 
--- a number of 16 bits in decimal, without leading zeros
+-- how many decimal digits a number has, counted up to so many
+unfoldable pub widthWithin : ℕ → ℕ → ℕ
+widthWithin zero n = 0
+widthWithin (suc more) n = suc (cond (ltb n 10) 0 (widthWithin more (n / 10)))
+
+-- how many decimal digits a number of 64 bits has
+unfoldable pub decimalWidth : ℕ → ℕ
+decimalWidth n = widthWithin mostDigits n
+
+-- a number of 64 bits in decimal, without leading zeros
 abbrev pub decimal : ℕ → List ℕ
 decimal n = digitsIn 10 (decimalWidth n) n

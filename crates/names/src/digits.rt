@@ -53,23 +53,20 @@ pub fn put_digits(out: &mut [u8], at: usize, base: usize, count: usize, n: usize
     at + count
 }
 
-// How many decimal digits a number of 16 bits has.
+// How many decimal digits a number has.
 fn decimal_width(n: usize) -> usize
     ensures { λ r. ⌜ r ≡ decimalWidth n ⌝ }
 {
-    if n < 10 {
-        return 1;
+    let mut rest = n;
+    let mut count = 1;
+    while TEN <= rest {
+        rest = rest / TEN;
+        count += 1;
     }
-    if n < 100 {
-        return 2;
-    }
-    if n < 1000 {
-        return 3;
-    }
-    if n < 10000 { 4 } else { 5 }
+    count
 }
 
-// Writes a number of 16 bits in decimal, without leading zeros.
+// Writes a number in decimal, without leading zeros.
 pub fn put_decimal(out: &mut [u8], at: usize, n: usize) -> usize
     requires { ⌜ at + length (decimal n) ≤ length (now out) ⌝ }
     ensures { λ r. ⌜ Put (now (out .entry)) at (decimal n) (now (out .exit)) r ⌝ }

@@ -1,41 +1,58 @@
--- `decimal_width` meets its contract: the tests that were made are those of `decimalWidth`.
+-- `decimal_width` meets its contract. The invariant: the digits counted and those of the rest are all digits, one of them counted twice,
+-- and the rest has no more than are left. The measure is the rest.
 -- Assumes nothing.
-use borrow.Author.Tests.{lt-ltb, le-ltb}
-use Rattle.names.specs.Digits.{decimalWidth}
+use mathlib.Core.Path.{_≡_, refl}
+use Prim.Native.Nat.{ℕ, zero, suc, _+_, _-_, _/_, _^_, _≤_, _<_}
+use native.Mathlib.Omega.{arith}
+use Rattle.names.specs.Digits.{mostDigits, widthWithin, decimalWidth}
+use Rattle.names.proofs.Decimals.{Width, one, further, width, div-ten-below}
 use Rattle.names.proofs.digits.decimal_width.Statement.{statement}
 use Rattle.names.proofs.digits.decimal_width.Tie as tie
 
-returns : tie.Need-returns
-unfolding decimalWidth
-returns c = rw (lt-ltb _ 10 (c .if1 .taken))
+-- the digits counted, the last of them the rest's own, and how many further the rest may have
+record Counted (n rest count : ℕ) : Type 0 where
+  pub more : ℕ
+  pub room : count + more ≡ mostDigits
+  pub below : rest < 10 ^ suc more
+  pub all : count + widthWithin (suc more) rest ≡ suc (decimalWidth n)
 
-returns-2 : tie.Need-returns-2
-unfolding decimalWidth
-returns-2 c = rw (le-ltb _ 10 (c .before .if1 .left), lt-ltb _ 100 (c .if2 .taken))
+-- a rest of two digits or more: a digit further is counted
+counted-next : (n rest count : ℕ) → Counted n rest count → 10 ≤ rest → Counted n (rest / 10) (count + 1)
+counted-next n rest count c h = go (c .more) (c .room) (c .below) (c .all)
+  where
+    go : (more : ℕ) → count + more ≡ mostDigits → rest < 10 ^ suc more → count + widthWithin (suc more) rest ≡ suc (decimalWidth n)
+        → Counted n (rest / 10) (count + 1)
+    go zero room below all = absurd (omega arith)
+    go (suc more) room below all = by (width (suc more) rest)
+      where
+        by : Width (suc more) rest → Counted n (rest / 10) (count + 1)
+        by (one p e) = absurd (omega arith)
+        by (further p e) = record { more = more; room = omega arith; below = div-ten-below rest (suc more) below; all = omega arith }
 
-returns-3 : tie.Need-returns-3
-unfolding decimalWidth
-returns-3 c = rw (le-ltb _ 10 (c .before .before .if1 .left), le-ltb _ 100 (c .before .if2 .left), lt-ltb _ 1000 (c .if3 .taken))
+-- a rest of one digit: all are counted
+counted-last : (n rest count : ℕ) → Counted n rest count → rest < 10 → count ≡ decimalWidth n
+counted-last n rest count c h = go (width (c .more) rest)
+  where
+    go : Width (c .more) rest → count ≡ decimalWidth n
+    go (one p e) = omega (arith, c .all)
+    go (further p e) = absurd (omega arith)
 
-returns-4 : tie.Need-returns-4
-unfolding decimalWidth
-returns-4 c =
-    rw (
-      le-ltb _ 10 (c .before .before .before .if1 .left),
-      le-ltb _ 100 (c .before .before .if2 .left),
-      le-ltb _ 1000 (c .before .if3 .left),
-      lt-ltb _ 10000 (c .if4 .taken),
-    )
+abbrev Inv-loop : tie.InvT-loop
+Inv-loop n rest₀ count₀ rest count = Counted n rest count
 
-returns-5 : tie.Need-returns-5
+abbrev μ-loop : tie.MeasureT-loop
+μ-loop n rest₀ count₀ rest count = rest
+
+loop-holds : tie.Need-loop-holds Inv-loop μ-loop
 unfolding decimalWidth
-returns-5 c =
-    rw (
-      le-ltb _ 10 (c .before .before .before .if1 .left),
-      le-ltb _ 100 (c .before .before .if2 .left),
-      le-ltb _ 1000 (c .before .if3 .left),
-      le-ltb _ 10000 (c .if4 .left),
-    )
+loop-holds c = record { more = mostDigits - 1; room = refl; below = omega arith; all = omega arith }
+
+loop-again : tie.Need-loop-again Inv-loop μ-loop
+loop-again c = counted-next _ _ _ (c .before .loop .inv) (c .loop-test .taken)
+
+returns : tie.Need-returns Inv-loop μ-loop
+returns c = counted-last _ _ _ (c .before .loop .inv) (c .loop-test .left)
 
 pub decimal-width-spec : {M : Type 1} → statement M
-decimal-width-spec = tie.close (tie.spec returns returns-2 returns-3 returns-4 returns-5)
+decimal-width-spec =
+    tie.close (tie.spec Inv-loop μ-loop loop-holds (λ c. omega arith) (λ c. omega arith) loop-again returns)
