@@ -41,8 +41,8 @@ number-back l n s h e = go (decimalWidth n) refl
   where
     go : (w : ℕ) → decimalWidth n ≡ w → numberIn (l ∷ decimal n ++ s) ≡ n
     go zero w = absurd (omega (arith, width-least n))
-    go 1 w = rw (decimal-one n w, e) (omega (arith, digit-is n .1, rw w at (decimal-holds n (omega arith))))
-    go 2 w = rw (decimal-two n w, digit-is n .0) (omega (arith, digit-is n .1, digit-is (n / 10) .1))
+    go (suc zero) w = rw (decimal-one n w, e) (omega (arith, digit-is n .1, rw w at (decimal-holds n (omega arith))))
+    go (suc (suc zero)) w = rw (decimal-two n w, digit-is n .0) (omega (arith, digit-is n .1, digit-is (n / 10) .1))
     go (suc (suc (suc more))) w = absurd (omega (arith, width-below 1 n h))
 
 -- what follows a number begins with no digit

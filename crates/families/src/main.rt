@@ -17,7 +17,7 @@ fn show_filled(k: usize, z: &mut [u8], p: &mut [u8], program: &[u8]) {
     fillings::fill_vectors(z);
     fillings::fill_predicates(p);
     let number = fresh_step(k, z, p, program, &mut journal);
-    let line = lines::write_line(&mut out, k, z, p, program, 0, number);
+    let line = lines::write_line(&mut out, k, z, p, program, 0, number as u64);
     let length = line.value as usize;
     if length <= lines::MOST_LINE {
         io::write_all(STDOUT_FILENO, &out[..length]);

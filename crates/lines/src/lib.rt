@@ -164,7 +164,7 @@ pub fn write_line(
     p: &[u8],
     program: &[u8],
     position: usize,
-    number: u8,
+    number: u64,
 ) -> Answer
     ensures { λ r. ⌜ LineWritten k (state (now (z .entry)) (now (p .entry))) (now (program .entry)) position number (now (out .entry)) (now (out .exit)) r ⌝ }
 {
@@ -172,7 +172,7 @@ pub fn write_line(
     if found.number != refusal::DONE {
         return refuse(found.number);
     }
-    if number != refusal::DONE {
+    if number != refusal::DONE as u64 {
         return done(put_refused(out, position, number as usize, found.word));
     }
     match words::decode(found.word) {

@@ -193,7 +193,7 @@ pub extern "C" fn ln_write_line(
     p: &[u8],
     program: &[u8],
     position: usize,
-    number: u8,
+    number: u64,
 ) -> LnAnswer
     ensures { λ r. ⌜ LineWritten k (state (now (z .entry)) (now (p .entry))) (now (program .entry)) position number (now (out .entry)) (now (out .exit)) (answerIn r) ⌝ }
 {

@@ -5,10 +5,10 @@ use mathlib.Core.List.{map}
 use Rattle.words.specs.Digits.{digitsAnd}
 use Rattle.words.specs.Table.{rowAt, matches, placeFrom, rowOf}
 use Rattle.words.specs.Decode.{decoded}
-use Rattle.names.specs.Digits.{digitOf, digitsIn, decimalWidth}
+use Rattle.names.specs.Digits.{digitOf, digitsIn, widthWithin, decimalWidth}
 use Rattle.names.specs.Text.{keyOf, nameOf, letterOf, textOf}
 use Rattle.marked.specs.Cases.{cases, outcome, expected}
 
 pub marked-cases : map outcome cases ≡ map expected cases
-unfolding digitsAnd rowAt matches placeFrom rowOf decoded digitOf digitsIn decimalWidth keyOf nameOf letterOf textOf
+unfolding digitsAnd rowAt matches placeFrom rowOf decoded digitOf digitsIn widthWithin decimalWidth keyOf nameOf letterOf textOf
 marked-cases = refl

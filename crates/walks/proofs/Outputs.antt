@@ -17,7 +17,7 @@ use Rattle.machine.specs.Refusal.{DONE, OUT, inOrder, First, refused, unlessRef
 use Rattle.machine.specs.declared.Answer.{Answer}
 use Rattle.machine.proofs.Tests.{first-exactly, unless-refused}
 use Rattle.registers.specs.State.{State}
-use Rattle.names.specs.Digits.{digitsIn, decimalWidth}
+use Rattle.names.specs.Digits.{digitsIn, widthWithin, decimalWidth}
 use Rattle.names.proofs.Puts.{put-length}
 use Rattle.journal.specs.Layout.{mostJournal, entryBytes, heldOf}
 use Rattle.journal.specs.Calls.{freshAfter, fieldsNow, entryFor, stepRefused, stepState, stepJournal, Stepped}
@@ -101,7 +101,7 @@ output-none input s e h = rw (← e) (unless-refused (s .number) (sessionLines s
 
 -- the line of a session that is refused is short
 session-short : length sessionLine ≤ mostLine
-unfolding sessionLine digitsIn decimalWidth
+unfolding sessionLine digitsIn widthWithin decimalWidth
 session-short = omega arith
 
 -- an output is not longer than the longest, and lies within what is lent

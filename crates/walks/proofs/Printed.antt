@@ -16,7 +16,7 @@ use Rattle.machine.proofs.Tests.{unless-refused}
 use Rattle.registers.specs.State.{State, Sized}
 use Rattle.words.specs.Decode.{decoded, numberOf}
 use Rattle.programs.specs.Word.{wordAt, wordsOf}
-use Rattle.names.specs.Digits.{decimalWidth}
+use Rattle.names.specs.Digits.{widthWithin, decimalWidth}
 use Rattle.names.specs.Named.{Put}
 use Rattle.journal.specs.Layout.{entryBytes}
 use Rattle.lines.specs.Line.{mostLine, stepLine, lineRefused, LineWritten}
@@ -45,7 +45,7 @@ module _ (k : ℕ) (s : State) (program : List ℕ) (position : ℕ) where
 
   -- and of an accepted step so many bytes for each of its entry's
   pub printed-done : length (printed k s program position DONE) ≤ lineRate * entryBytes k
-  unfolding printed decimalWidth
+  unfolding printed widthWithin decimalWidth
   printed-done = go (lineRefused k s program position DONE mostLine) refl
     where
       go : (n : ℕ) → lineRefused k s program position DONE mostLine ≡ n → length (unlessRefused n (stepLine k s program position DONE) []) ≤ lineRate * entryBytes k

@@ -46,7 +46,7 @@ fn step_line(
         (now (out .exit)) ⌝ }
 {
     let number = journal::step(k, z, p, program, journal);
-    let written = lines::write_line(&mut out[at..], k, z, p, program, position, number);
+    let written = lines::write_line(&mut out[at..], k, z, p, program, position, number as u64);
     Turn {
         number,
         at: at + written.value as usize,

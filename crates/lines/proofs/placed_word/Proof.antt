@@ -5,7 +5,7 @@ use denote.Ref.{now}
 use lib.ListN.{length}
 use borrow.Author.Needs.{needs}
 use Rattle.machine.specs.Refusal.{refused, filesTests}
-use Rattle.names.specs.Digits.{decimalWidth}
+use Rattle.names.specs.Digits.{widthWithin, decimalWidth}
 use Rattle.registers.specs.State.{state}
 use Rattle.programs.specs.declared.Next.{Next}
 use Rattle.programs.specs.Word.{nextRefused}
@@ -41,14 +41,14 @@ returns-2 c =
     (right (c .before .before .before)) (next .result) (next .ensures) (c .if2 .taken)
 
 returns-3 : tie.Need-returns-3
-unfolding decimalWidth
+unfolding widthWithin decimalWidth
 returns-3 c =
     let a = first (c .before .before) .args in
     by-out (a .k) (state (now (a .z)) (now (a .p))) (now (a .program)) (a .position) (a .n)
     (right (c .before .before .before .before)) (inside (c .before)) (c .if3 .taken)
 
 returns-4 : tie.Need-returns-4
-unfolding decimalWidth
+unfolding widthWithin decimalWidth
 returns-4 c =
     let a = first (c .before .before) .args in
     let next = c .before .before .before .next-word in

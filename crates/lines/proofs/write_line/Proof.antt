@@ -153,6 +153,7 @@ write-line-spec =
     (λ c κs. search needs)
     (λ c κs. search needs)
     returns
+    (λ c. search needs)
     put-refused-requires
     (λ c κs. search needs)
     (λ c. search needs)

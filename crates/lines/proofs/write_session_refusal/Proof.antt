@@ -5,22 +5,22 @@ use native.Mathlib.Omega.{arith}
 use borrow.Author.Needs.{needs}
 use borrow.Author.Tests.{lt-ltb, le-ltb}
 use Rattle.machine.specs.Refusal.{OUT}
-use Rattle.names.specs.Digits.{digitsIn, decimalWidth}
+use Rattle.names.specs.Digits.{digitsIn, widthWithin, decimalWidth}
 use Rattle.lines.specs.Line.{sessionLine}
 use Rattle.lines.proofs.Lines.{written-refused, written-done}
 use Rattle.lines.proofs.write_session_refusal.Statement.{statement}
 use Rattle.lines.proofs.write_session_refusal.Tie as tie
 
 returns : tie.Need-returns
-unfolding decimalWidth
+unfolding widthWithin decimalWidth
 returns c = written-refused _ _ _ (c .refuse .result) OUT (c .refuse .ensures) (rw (lt-ltb _ _ (c .before .if1 .taken))) (λ e. omega arith)
 
 put-field-requires : tie.Need-put-field-requires
-unfolding digitsIn decimalWidth
+unfolding digitsIn widthWithin decimalWidth
 put-field-requires c κs = omega arith
 
 returns-2 : tie.Need-returns-2
-unfolding sessionLine digitsIn decimalWidth
+unfolding sessionLine digitsIn widthWithin decimalWidth
 returns-2 c =
     let room = c .before .before .before .before .before .if1 .left in
     written-done _ _ _ (c .done .result) _ sessionLine _ (c .done .ensures) (rw (le-ltb _ _ room)) refl (omega arith) (c .before .before .before .put-field .ensures)

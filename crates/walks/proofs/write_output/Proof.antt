@@ -9,7 +9,7 @@ use borrow.Author.Needs.{needs}
 use borrow.Author.Tests.{lt-ltb, le-ltb}
 use Rattle.machine.specs.Size.{mostWords}
 use Rattle.machine.specs.Refusal.{OUT}
-use Rattle.names.specs.Digits.{decimalWidth}
+use Rattle.names.specs.Digits.{widthWithin, decimalWidth}
 use Rattle.session.specs.Layout.{programPart}
 use Rattle.lines.specs.Line.{mostLine}
 use Rattle.lines.proofs.Lines.{written-refused, written-done}
@@ -20,11 +20,11 @@ use Rattle.walks.proofs.write_output.Tie as tie
 
 -- past the first test the output has room
 room : (c : tie.Else1) → mostOutput ≤ length (now (c .before .before .before .args .out))
-unfolding decimalWidth
+unfolding widthWithin decimalWidth
 room c = c .if1 .left
 
 returns : tie.Need-returns
-unfolding decimalWidth
+unfolding widthWithin decimalWidth
 returns c = written-refused _ _ _ _ OUT refl (rw (lt-ltb _ _ (c .if1 .taken))) (λ e. omega arith)
 
 write-session-requires : tie.Need-write-session-requires
