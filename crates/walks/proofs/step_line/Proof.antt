@@ -44,8 +44,8 @@ shown c =
     (omega (arith, mid-len (a .at) (length out) out (le-refl _)))
     (c .write-line .ensures))
 
-add-t21 : tie.Need-add-t21
-add-t21 c = omega (arith, shown (c .before .before) .after, few (c .before .before))
+add-t22 : tie.Need-add-t22
+add-t22 c = omega (arith, shown (c .before .before) .after, few (c .before .before))
 
 returns : tie.Need-returns
 returns c = record { stepped = taken (c .before .before) .step .ensures; shown = shown (c .before .before) }
@@ -58,8 +58,9 @@ step-line-spec =
     (λ c. search needs)
     (λ c. search needs)
     (λ c. search needs)
+    (λ c. search needs)
     (λ c κs. search needs)
-    add-t21
+    add-t22
     (λ c. search needs)
     (λ c. search needs)
     (λ c. search needs)
