@@ -59,7 +59,7 @@ extern "C" {
 #endif
 
 /* The version of this header and its library. It grows with every change that a program can notice. */
-#define LN_VERSION 1
+#define LN_VERSION 2
 
 /* The versions of the stored forms. */
 #define LN_JOURNAL_VERSION 1
@@ -287,14 +287,14 @@ struct ln_session ln_read_session(const uint8_t *bytes, size_t bytes_len);
 
 /* Writes the line of the step at `position`, which answered `number` and left this vector file, at the
  * front of `out`; the value is its length, at most LN_LONGEST_LINE, and bytes past it stay. The line has
- * the position and the number in decimal, then after LN_DONE the word's text and its destination
- * register in hex, highest byte first, and after a refusal the word in eight hex digits. Fields are one
- * space apart. It ends in a newline, and no zero follows.
+ * the position and the number, whichever of 64 bits it is, in decimal, then after LN_DONE the word's
+ * text and its destination register in hex, highest byte first, and after every other number the word in
+ * eight hex digits. Fields are one space apart. It ends in a newline, and no zero follows.
  * LN_LENGTH, LN_FILE, LN_PROGRAM; LN_END: no word at `position`; LN_OUT: `out` has under LN_LONGEST_LINE
  * bytes; LN_UNKNOWN, LN_UNDEFINED: `number` is LN_DONE and the word is not accepted. */
 struct ln_answer ln_write_line(uint8_t *out, size_t out_len, size_t k, const uint8_t *z, size_t z_len,
                                const uint8_t *p, size_t p_len, const uint8_t *program,
-                               size_t program_len, size_t position, uint8_t number);
+                               size_t program_len, size_t position, uint64_t number);
 
 #ifdef __cplusplus
 }

@@ -175,6 +175,6 @@ extern "C" {
         program: *const u8,
         program_len: usize,
         position: usize,
-        number: u8,
+        number: u64,
     ) -> Answer;
 }

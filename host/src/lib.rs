@@ -422,9 +422,7 @@ pub fn write_line(
     position: usize,
     answer: Result<(), Refusal>,
 ) -> Result<usize, Refusal> {
-    // An answer that no byte holds is none of the engine's: the largest stands for it.
     let number = answer.err().map_or(0, Refusal::number);
-    let number = u8::try_from(number).unwrap_or(u8::MAX);
     let answer = unsafe {
         boundary::ln_write_line(
             out.as_mut_ptr(),

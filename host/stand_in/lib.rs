@@ -198,7 +198,7 @@ pub unsafe extern "C" fn ln_write_line(
     program: *const u8,
     program_len: usize,
     position: usize,
-    number: u8,
+    number: u64,
 ) -> Answer {
     let line = reference::write_line(
         lent_mut(out, out_len),
@@ -207,7 +207,7 @@ pub unsafe extern "C" fn ln_write_line(
         lent(p, p_len),
         lent(program, program_len),
         position,
-        Refusal::check(number.into()),
+        Refusal::check(slips::line_number(number)),
     );
     answer(line.map(|length| length as u64))
 }

@@ -46,6 +46,15 @@ pub fn subtotal(
     Ok(total)
 }
 
+/// The answer number of a line.
+pub fn line_number(number: u64) -> u64 {
+    if slips("a line's number cut to a byte") {
+        number % 256
+    } else {
+        number
+    }
+}
+
 pub fn back(k: usize, z: &mut [u8], p: &[u8], journal: &mut [u8]) -> Result<(), Refusal> {
     if slips("entry left after a back") {
         let before = journal.to_vec();

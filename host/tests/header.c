@@ -1,4 +1,5 @@
-/* The numbers and names of include/ln.h, a line each; the crate has the same. */
+/* The numbers and names of include/ln.h, a line each, then the line of a step with the greatest answer
+ * number; the crate has the same. */
 #include "ln.h"
 
 #include <stdio.h>
@@ -6,6 +7,17 @@
 static void say(const char *name, size_t value)
 {
     printf("%s %lu\n", name, (unsigned long)value);
+}
+
+/* The line of a step at k = 1 over a word of zeros, with the greatest answer number. */
+static void say_line(void)
+{
+    static uint8_t z[LN_VECTOR_FILE_BYTES(1)], p[LN_PREDICATE_FILE_BYTES(1)], program[LN_WORD_BYTES];
+    static uint8_t line[LN_LONGEST_LINE];
+    struct ln_answer answer = ln_write_line(line, sizeof line, 1, z, sizeof z, p, sizeof p, program,
+                                            sizeof program, 0, UINT64_MAX);
+
+    fwrite(line, 1, (size_t)answer.value, stdout);
 }
 
 int main(void)
@@ -30,5 +42,6 @@ int main(void)
     for (number = LN_LENGTH; number <= LN_SESSION + 1; number++) {
         say(ln_refusal_name(number), (size_t)number);
     }
+    say_line();
     return 0;
 }

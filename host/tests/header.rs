@@ -1,4 +1,4 @@
-//! The crate's numbers and names are the header's: `header.c` prints the same lines.
+//! The crate's numbers and names are the header's, and so is a line: `header.c` prints the same.
 
 use ghishmadul::*;
 
@@ -25,6 +25,16 @@ fn the_header_has_the_same_numbers() {
     let after_the_last = Refusal::ALL.len() as u64 + 1;
     let refusals = Refusal::ALL.iter().copied().chain([Refusal::Unlisted(after_the_last)]);
     let names = refusals.map(|refusal| format!("{} {}\n", refusal.name(), refusal.number()));
-    let lines: String = sizes.chain(names).collect();
+    let lines: String = sizes.chain(names).chain([line_of_the_greatest_number()]).collect();
     assert_eq!(lines, include_str!("header.expected"));
+}
+
+/// The line of a step at k = 1 over a word of zeros, with the greatest answer number.
+fn line_of_the_greatest_number() -> String {
+    let z = vec![0; vector_file_bytes(1)];
+    let p = vec![0; predicate_file_bytes(1)];
+    let mut out = [0; LONGEST_LINE];
+    let answer = Err(Refusal::Unlisted(u64::MAX));
+    let length = write_line(&mut out, 1, &z, &p, &[0; 4], 0, answer).unwrap();
+    String::from_utf8_lossy(&out[..length]).into_owned()
 }

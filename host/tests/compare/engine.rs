@@ -276,10 +276,10 @@ impl Way {
         p: &[u8],
         program: &[u8],
         position: usize,
-        number: u8,
+        number: u64,
     ) -> Numbers {
         if self == Way::Safe {
-            let answer = Refusal::check(number.into());
+            let answer = Refusal::check(number);
             return numbers(ghishmadul::write_line(out, k, z, p, program, position, answer));
         }
         answer(unsafe {

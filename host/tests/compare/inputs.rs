@@ -75,6 +75,15 @@ pub fn length(random: &mut Random) -> usize {
     }
 }
 
+/// An answer number: mostly done or a refusal's; sometimes one that no byte or no sixteen bits hold.
+pub fn answer_number(random: &mut Random) -> u64 {
+    match random.below(6) {
+        0 => random.number() >> random.below(64),
+        1 => random.pick(&[99, 100, 255, 256, 65_535, 65_536, 1 << 32, 1 << 63, u64::MAX]),
+        _ => random.pick(&[0, 0, 0, 1, 6, 7, 8, 9, 14]),
+    }
+}
+
 /// Content of a part: noise, or bytes that are all alike, or alike but for some.
 pub fn content(random: &mut Random, part: &mut Vec<u8>, bytes: usize) {
     part.clear();

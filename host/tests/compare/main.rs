@@ -423,7 +423,7 @@ impl<'a> Comparison<'a> {
         self.engine.program.set(&self.parts.program);
         let words = self.parts.program.len() / 4;
         let position = self.mostly_below(words + 1);
-        let number = self.random.pick(&[0, 0, 0, 1, 6, 7, 8, 9, 14, 99, 100, 255]);
+        let number = inputs::answer_number(&mut self.random);
         let bytes = match self.random.below(12) {
             0 => self.random.below(546),
             1 => 545,
@@ -442,7 +442,7 @@ impl<'a> Comparison<'a> {
             number,
         );
         let Parts { z, p, program, out, .. } = &mut self.parts;
-        let answer = Refusal::check(number.into());
+        let answer = Refusal::check(number);
         let reference = numbers(reference::write_line(out, k, z, p, program, position, answer));
         self.same(Call::WriteLine, engine, reference, &[k, position, number as usize]);
         self.agree(Call::WriteLine, &["z", "p", "program", "out"]);
