@@ -48,10 +48,10 @@ unfolding decimalWidth
 loop-holds c = record { more = mostDigits - 1; room = refl; below = omega arith; all = omega arith }
 
 loop-again : tie.Need-loop-again Inv-loop μ-loop
-loop-again c = counted-next _ _ _ (c .before .loop .inv) (c .loop-test .taken)
+loop-again c = counted-next _ _ _ (c .before .loop .inv) (omega arith)
 
 returns : tie.Need-returns Inv-loop μ-loop
-returns c = counted-last _ _ _ (c .before .loop .inv) (c .loop-test .left)
+returns c = counted-last _ _ _ (c .before .loop .inv) (omega arith)
 
 pub decimal-width-spec : {M : Type 1} → statement M
 decimal-width-spec =
