@@ -25,6 +25,10 @@ use Rattle.lines.proofs.Placed.{refused-line}
 lead-length : (position number : ℕ) → length (lead position number) ≡ (decimalWidth position + 1) + (decimalWidth number + 1)
 lead-length position number = simp (length-append, digits-length)
 
+-- a refused step's line is short, whatever its numbers are
+pub refused-most : (position number word : ℕ) → length (refusedLine position number word) ≤ mostLine
+refused-most position number word = simp (length-append, digits-length) (omega (arith, width-most position, width-most number))
+
 module _ (position : ℕ) (inside : position ≤ mostWords) where
   -- what is lent for a line holds an accepted step's lead and the room that naming takes
   pub accepted-room : length (lead position DONE) + leastOut ≤ mostLine
@@ -34,11 +38,6 @@ module _ (position : ℕ) (inside : position ≤ mostWords) where
   accepted-most word register =
       simp (length-append, digits-length, hex-length)
       (omega (arith, width-grows position mostWords inside, word-length word))
-
-  pub refused-most : (number word : ℕ) → length (refusedLine position number word) ≤ mostLine
-  refused-most number word =
-      simp (length-append, digits-length)
-      (omega (arith, width-grows position mostWords inside, width-most number))
 
   module _ (k : ℕ) (s : State) (program : List ℕ) where
     -- the line of a step that is told done is no longer than its register makes it
@@ -59,4 +58,4 @@ module _ (position : ℕ) (inside : position ≤ mostWords) where
     step-most zero h = omega (arith, done-most)
     step-most (suc n) h =
         rw (refused-line k s program position (suc n) (wordAt program position) refl (λ e. omega arith))
-        (refused-most (suc n) (wordAt program position))
+        (refused-most position (suc n) (wordAt program position))

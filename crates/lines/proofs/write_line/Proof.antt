@@ -2,6 +2,7 @@
 -- Assumes nothing.
 use mathlib.Core.Path.{_≡_, sym, _∙_, ap}
 use Prim.Native.Nat.{ℕ, _≤_}
+use native.Mathlib.Nat.{le-trans}
 use native.Mathlib.Omega.{arith}
 use denote.Ref.{now}
 use lib.ListN.{length}
@@ -75,11 +76,7 @@ returns c =
     (c .before .if1 .taken)
 
 put-refused-requires : tie.Need-put-refused-requires
-put-refused-requires c κs =
-    let e = c .before .before in
-    let s = start (e .before .before) in
-    let r = known e in
-    omega (arith, r .room, refused-most (s .args .position) (omega (arith, r .inside)) (s .args .number) (e .before .before .placed-word .result .word))
+put-refused-requires c κs = le-trans (refused-most _ _ _) (known (c .before .before) .room)
 
 returns-2 : tie.Need-returns-2
 returns-2 c =
@@ -87,11 +84,10 @@ returns-2 c =
     let s = start (e .before .before) in
     let word = e .before .before .placed-word .result .word in
     let other = c .before .before .before .before .before .if2 .taken in
-    let r = known e in
     written-done _ _ _ (c .done .result) _ (refusedLine (s .args .position) (s .args .number) word) _ (c .done .ensures)
     (refused-passes (s .args .k) (files s) (now (s .args .program)) (s .args .position) (room s) (s .args .number) (placed e) other)
     (refused-line (s .args .k) (files s) (now (s .args .program)) (s .args .position) (s .args .number) word (is-word e) other)
-    (omega (arith, r .room, refused-most (s .args .position) (omega (arith, r .inside)) (s .args .number) word))
+    (le-trans (refused-most (s .args .position) (s .args .number) word) (known e .room))
     (c .before .before .before .put-refused .ensures)
 
 -- the destination register lies in the vector file, and is not longer than the longest
