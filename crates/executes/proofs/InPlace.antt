@@ -6,7 +6,7 @@ use Prim.Native.Nat.{ℕ, _+_, _*_, _/_, _≤_, _<_}
 use mathlib.Core.Path.{_≡_, refl, sym, _∙_, ap, ap₂}
 use mathlib.Core.Bool.{Bool, true, false, cond}
 use mathlib.Core.List.{List, _++_, append-assoc}
-use native.Mathlib.Nat.{add-assoc, zero-mul, zero-add, add-mul, one-mul, mul-le-mul-right}
+use native.Mathlib.Nat.{add-assoc, zero-mul, zero-add, add-mul, one-mul, mul-le-mul-right, div-le-self}
 use native.Mathlib.Numerals.{add-one}
 use native.Mathlib.Omega.{arith}
 use borrow.Author.Tests.{ltb-true, ltb-false}
@@ -14,7 +14,7 @@ use lib.Dec.{ltb}
 use lib.ListN.{length, take, drop, length-append}
 use lib.IntN.{ℤ}
 use lib.Seq.{length-take-le, take-at}
-use Rattle.machine.specs.Size.{vectors, vectorBytes}
+use Rattle.machine.specs.Size.{vectors, mostLength, vectorBytes}
 use Rattle.machine.proofs.Places.{place-within}
 use Rattle.parts.specs.Part.{part, withPart}
 use Rattle.parts.specs.Number.{bytesOf, bitsOf}
@@ -37,10 +37,10 @@ use Rattle.sums.proofs.Accepted.{width-legal}
 use Rattle.executes.specs.Terms.{Operands, Source, Operand1, Operand2, Old, operandOf, sumOf}
 use Rattle.executes.specs.Meaning.{wideTerms}
 use Rattle.executes.specs.Execute.{operandsOf, maskOf, integerAfter, laneWritten, executed}
-use Rattle.executes.specs.Needs.{ExecutableAs, WideTurn}
+use Rattle.executes.specs.Needs.{ExecutableAs, WideLanes, WideTurn}
 use Rattle.executes.proofs.Halves.{element-same, half-same}
 use Rattle.executes.proofs.Padded.{padded-full}
-use Rattle.executes.proofs.Sizes.{whole, wide-halves, vector-in, vector-length, second-most}
+use Rattle.executes.proofs.Sizes.{whole, k-most, wide-halves, vector-in, vector-length, second-most}
 
 -- a part written right behind another is one part
 with-next : (a n m : ℕ) (e g l : List ℕ) → a + n + m ≤ length l → length e ≡ n → withPart (a + n) m g (withPart a n e l) ≡ withPart a (n + m) (e ++ g) l
@@ -102,10 +102,6 @@ module _ (wide : WideFamily) (f : Fields) (k : ℕ) (s : State) (x : ExecutableA
   register-ends : (r : ℕ) → r < vectors → place r + vectorBytes k ≤ length (s .z)
   register-ends r h = register-inside k Vector r (s .z) (vector-in f k s (x .word) r h)
 
-  -- so a lane of the destination ends within the file
-  pub lane-within : (at v e : ℕ) → at ≡ place (f .d) → v ≡ w → e < vectorBytes k / w → at + e * v + v ≤ length (s .z)
-  lane-within at v e is width h = rw (is, width) (omega (arith, lane-ends e h, register-ends (f .d) (x .word .fields .d)))
-
   module _ (e : ℕ) (some : e ≤ vectorBytes k / w) where
     fits : place (f .d) + e * w ≤ length (s .z)
     fits = omega (arith, register-ends (f .d) (x .word .fields .d), mul-le-mul-right w some, whole k (f .size) (x .word .fields .size))
@@ -113,11 +109,11 @@ module _ (wide : WideFamily) (f : Fields) (k : ℕ) (s : State) (x : ExecutableA
     sized : length (lanesBelow f k s e) ≡ e * w
     sized = length-lanes w 0 e _
 
-    pub length-after : length (fileAfter f k s e) ≡ length (s .z)
+    length-after : length (fileAfter f k s e) ≡ length (s .z)
     length-after = length-with (place (f .d)) (e * w) (lanesBelow f k s e) (s .z) fits sized
 
     -- the files keep their sizes
-    pub still : ExecutableAs (Wide wide) f k (state (fileAfter f k s e) (s .p))
+    still : ExecutableAs (Wide wide) f k (state (fileAfter f k s e) (s .p))
     still = record {
       word = record {
         lent = record { legal = x .word .lent .legal; vectorSize = length-after ∙ x .word .lent .vectorSize; predicateSize = x .word .lent .predicateSize };
@@ -168,11 +164,12 @@ module _ (wide : WideFamily) (f : Fields) (k : ℕ) (s : State) (x : ExecutableA
         ∙ sym (fed s e)
 
     -- lane e can be written in that file
-    pub ahead : (ps : Parameters) (v : ℕ) (z : List ℕ) → ps ≡ formOf (f .row) .parameters → v ≡ w → z ≡ fileAfter f k s e → WideTurn wide ps v e f k (state z (s .p))
-    ahead ps v z parameters width is = record { word = rw is (still e some); parameters = parameters; width = width; inside = turn }
+    ahead : (ps : Parameters) (v : ℕ) (z : List ℕ) → ps ≡ formOf (f .row) .parameters → v ≡ w → z ≡ fileAfter f k s e → WideTurn wide ps v e f k (state z (s .p))
+    ahead ps v z parameters width is =
+        record { lanes = record { word = rw is (still e some); parameters = parameters; width = width }; inside = turn }
 
     -- which makes one lane more
-    pub after-next : (z : List ℕ) → z ≡ fileAfter f k s e → laneWritten f k e (state z (s .p)) ≡ fileAfter f k s (e + 1)
+    after-next : (z : List ℕ) → z ≡ fileAfter f k s e → laneWritten f k e (state z (s .p)) ≡ fileAfter f k s (e + 1)
     after-next z is =
         rw is
         (with-next (place (f .d)) (e * w) w (lanesBelow f k s e) (bytesOf w (residue 64 (integerAfter f k (state (fileAfter f k s e) (s .p)) e))) (s .z)
@@ -191,10 +188,10 @@ module _ (wide : WideFamily) (f : Fields) (k : ℕ) (s : State) (x : ExecutableA
             ∙ sym (rw (add-one e, lanes-snoc w 0 e (λ (i : ℕ). residue (bitsOf w) (integerAfter f k s i)), zero-add e))
 
   -- before the first lane, and after the last
-  pub after-none : fileAfter f k s 0 ≡ s .z
+  after-none : fileAfter f k s 0 ≡ s .z
   after-none = rw (zero-mul w) (with-same (place (f .d)) 0 (s .z))
 
-  pub after-all : fileAfter f k s (vectorBytes k / w) ≡ executed f k s .z
+  after-all : fileAfter f k s (vectorBytes k / w) ≡ executed f k s .z
   after-all =
       rw (x .is)
       (ap₂ (λ (n : ℕ) (lanes : List ℕ). withPart (place (f .d)) n lanes (s .z)) filled
@@ -202,3 +199,30 @@ module _ (wide : WideFamily) (f : Fields) (k : ℕ) (s : State) (x : ExecutableA
     where
       filled : vectorBytes k / w * w ≡ vectorBytes k
       filled = whole k (f .size) (x .word .fields .size)
+
+-- the turns of a loop over the lanes: of w bytes each, out of so many that the destination has, from the file as it stood
+module _ (wide : WideFamily) (ps : Parameters) (f : Fields) (k w bytes : ℕ) (s : State) (h : WideLanes wide ps w f k s) (all : bytes ≡ vectorBytes k) where
+  counted : bytes / w ≡ vectorBytes k / widthOf (f .size)
+  counted = ap₂ (λ (n v : ℕ). n / v) all (h .width)
+
+  pub width-some : 0 < w
+  width-some = rw (h .width) (width-legal (f .size) (h .word .word .fields .size) .0)
+
+  pub few-turns : bytes / w ≤ vectorBytes mostLength
+  few-turns = omega (arith, div-le-self bytes w, k-most f k s (h .word .word), all)
+
+  pub not-begun : s .z ≡ fileAfter f k s 0
+  not-begun = sym (after-none wide f k s (h .word))
+
+  module _ (e : ℕ) (z : List ℕ) (so-far : z ≡ fileAfter f k s e) where
+    pub turn-ahead : e < bytes / w → WideTurn wide ps w e f k (state z (s .p))
+    turn-ahead turn = ahead wide f k s (h .word) e (omega (arith, counted)) ps w z (h .parameters) (h .width) so-far
+
+    pub turn-done : e < bytes / w → laneWritten f k e (state z (s .p)) ≡ fileAfter f k s (e + 1)
+    turn-done turn = after-next wide f k s (h .word) e (omega (arith, counted)) z so-far
+
+    pub same-size : e ≤ bytes / w → length z ≡ length (s .z)
+    same-size some = ap length so-far ∙ length-after wide f k s (h .word) e (omega (arith, counted))
+
+    pub all-done : e ≡ bytes / w → z ≡ executed f k s .z
+    all-done end = so-far ∙ ap (fileAfter f k s) (end ∙ counted) ∙ after-all wide f k s (h .word)

@@ -3,4 +3,5 @@ pub mod Padded
 pub mod Sizes
 pub mod Summed
 pub mod InPlace
+pub mod Fed
 pub mod LowWritten

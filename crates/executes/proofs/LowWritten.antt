@@ -18,6 +18,7 @@ use Rattle.lanes.specs.Sum.{each, element, activeElement, total}
 use Rattle.lanes.proofs.Written.{same-lanes, length-lanes}
 use Rattle.words.specs.Table.{formOf, familyOf}
 use Rattle.words.specs.declared.Fields.{Fields}
+use Rattle.words.specs.declared.Parameters.{Parameters}
 use Rattle.words.specs.declared.Family.the-variants.{Low}
 use Rattle.words.specs.declared.LowFamily.the-variants.{Reduction, Segment, Long}
 use Rattle.sums.specs.Sums.{laneSum}
@@ -48,9 +49,10 @@ module _ (f : Fields) (k : ℕ) (s : State) (x : Executable f k s) where
   sized = vector-length f k s x (f .n) (x .fields .n)
 
   -- the sum of the active lanes of all the source, in eight bytes
-  pub written-reduction : familyOf (f .row) ≡ Low Reduction → bytesOf 8 (laneSum signed w 0 (length source / w) mask source) ≡ writtenFor f k s
-  written-reduction is =
-      rw is
+  pub written-reduction : (ps : Parameters) → ps ≡ formOf (f .row) .parameters → familyOf (f .row) ≡ Low Reduction
+      → bytesOf 8 (laneSum (ps .signed) w 0 (length source / w) mask source) ≡ writtenFor f k s
+  written-reduction ps same is =
+      rw (same, is)
       (ap (λ (count : ℕ). bytesOf 8 (residue 64 (total (each (activeElement signed w mask source) 0 count)))) (sub-zero (length source / w) ∙ ap (λ (b : ℕ). b / w) sized)
       ∙ ap (λ (z : ℤ). bytesOf 8 (residue 64 z)) (sym (reduction-sum (operandsOf f k s) signed w (vectorBytes k) mask))
       ∙ one-lane 8 (omega arith) (sumOf (operandsOf f k s) (reductionTerms signed w (vectorBytes k) mask)))
@@ -69,8 +71,9 @@ module _ (f : Fields) (k : ℕ) (s : State) (x : Executable f k s) where
           ∙ sym (segment-sum (operandsOf f k s) w (vectorBytes k) mask e)
 
   -- the sum across the low bytes, in twice a lane's bytes
-  pub written-long : familyOf (f .row) ≡ Low Long → bytesOf (2 * w) (residue 64 (total (each (element signed w source) 0 (dataBytes (f .q) / w)))) ≡ writtenFor f k s
-  written-long is =
-      rw is
+  pub written-long : (ps : Parameters) → ps ≡ formOf (f .row) .parameters → familyOf (f .row) ≡ Low Long
+      → bytesOf (2 * w) (residue 64 (total (each (element (ps .signed) w source) 0 (dataBytes (f .q) / w)))) ≡ writtenFor f k s
+  written-long ps same is =
+      rw (same, is)
       (ap (λ (z : ℤ). bytesOf (2 * w) (residue 64 z)) (sym (long-sum (operandsOf f k s) signed w (f .q)))
       ∙ one-lane (2 * w) (low-most Long signed (f .q) (f .size) (x .fields .size) (rw is at (x .fields .allowed))) (sumOf (operandsOf f k s) (longTerms signed w (f .q))))

@@ -50,6 +50,13 @@ whole k = sizes (λ s. vectorBytes k / widthOf s * widthOf s ≡ vectorBytes k) 
 halves : (size : ℕ) → size < 4 → 1 ≤ size → widthOf size / 2 * 2 ≡ widthOf size
 halves = sizes (λ s. 1 ≤ s → widthOf s / 2 * 2 ≡ widthOf s) (λ h. absurd (omega arith)) (λ h. refl) (λ h. refl) (λ h. refl)
 
+-- and has two bytes, four or eight
+eight : (size : ℕ) → size < 4 → 1 ≤ size → (widthOf size ≡ 2 → ⊥) → (widthOf size ≡ 4 → ⊥) → widthOf size ≡ 8
+eight =
+    sizes (λ s. 1 ≤ s → (widthOf s ≡ 2 → ⊥) → (widthOf s ≡ 4 → ⊥) → widthOf s ≡ 8) (λ h. absurd (omega arith)) (λ h not2 not4. absurd (not2 refl))
+    (λ h not2 not4. absurd (not4 refl))
+    (λ h not2 not4. refl)
+
 -- the long families' lanes have at most eight bytes at twice the width
 doubles : (q size : ℕ) → size < 4 → allowsLong q size ≡ true → 2 * widthOf size ≤ 8
 doubles q =
@@ -104,10 +111,16 @@ module _ (f : Fields) (k : ℕ) (s : State) (x : Executable f k s) where
         bits = omega (arith, size, k-most);
       }
 
-  -- a word of a wide family has lanes of two halves
-  pub wide-halves : (wide : WideFamily) → familyOf (f .row) ≡ Wide wide → widthOf (f .size) / 2 * 2 ≡ widthOf (f .size)
-  wide-halves wide is =
-      halves (f .size) (x .fields .size) (leb-true 1 (f .size) (both-left (leb 1 (f .size)) (leb (f .size) 3) (rw is at (x .fields .allowed))))
+  -- a word of a wide family has lanes of more than one byte: two halves each, of eight bytes where not of two or four
+  module _ (wide : WideFamily) (is : familyOf (f .row) ≡ Wide wide) where
+    wider : 1 ≤ f .size
+    wider = leb-true 1 (f .size) (both-left (leb 1 (f .size)) (leb (f .size) 3) (rw is at (x .fields .allowed)))
+
+    pub wide-halves : widthOf (f .size) / 2 * 2 ≡ widthOf (f .size)
+    wide-halves = halves (f .size) (x .fields .size) wider
+
+    pub wide-eight : (widthOf (f .size) ≡ 2 → ⊥) → (widthOf (f .size) ≡ 4 → ⊥) → widthOf (f .size) ≡ 8
+    wide-eight = eight (f .size) (x .fields .size) wider
 
   -- what a word writes fits its destination
   pub written-fits : length (writtenFor f k s) ≤ vectorBytes k

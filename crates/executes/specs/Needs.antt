@@ -47,9 +47,13 @@ pub record ElementIn (w e : ℕ) (operand : List ℕ) : Type 0 where
   pub most : w ≤ 8
   pub inside : e * w + w ≤ length operand
 
--- lane e of a word's destination, where the word's family writes every lane and its parameters and width are at hand
-pub record WideTurn (wide : WideFamily) (ps : Parameters) (w e : ℕ) (f : Fields) (k : ℕ) (s : State) : Type 0 where
+-- a word whose family writes every lane, with its parameters and its width at hand
+pub record WideLanes (wide : WideFamily) (ps : Parameters) (w : ℕ) (f : Fields) (k : ℕ) (s : State) : Type 0 where
   pub word : ExecutableAs (Wide wide) f k s
   pub parameters : ps ≡ formOf (f .row) .parameters
   pub width : w ≡ widthOf (f .size)
+
+-- and lane e of its destination
+pub record WideTurn (wide : WideFamily) (ps : Parameters) (w e : ℕ) (f : Fields) (k : ℕ) (s : State) : Type 0 where
+  pub lanes : WideLanes wide ps w f k s
   pub inside : e < vectorBytes k / widthOf (f .size)

@@ -19,9 +19,9 @@ pub fn execute(f: Fields, k: usize, z: &mut [u8], p: &[u8])
     let family = form.family;
     match family {
         Family::Low(low) => {
-            let bytes = low::low_bytes(low, f, k, z, p);
+            let bytes = low::low_bytes(low, form.parameters, f, k, z, p);
             registers::write_register(k, Kind::Vector, z, f.d, &bytes);
         }
-        Family::Wide(wide) => wide::write_lanes(wide, f, k, z, p),
+        Family::Wide(wide) => wide::write_lanes(wide, form.parameters, f, k, z, p),
     }
 }

@@ -2,6 +2,7 @@
 use registers::Kind;
 use words::Fields;
 use words::LowFamily;
+use words::Parameters;
 ghost use mathlib.Core.Path.{_≡_};
 ghost use Prim.Native.Nat.{_*_, _/_, _≤_};
 ghost use lib.ListN.{length};
@@ -12,6 +13,7 @@ ghost use Rattle.registers.specs.State.{state};
 ghost use Rattle.lanes.specs.Lane.{fromLanes};
 ghost use Rattle.lanes.specs.Integer.{residue};
 ghost use Rattle.lanes.specs.Sum.{each, element, total};
+ghost use Rattle.words.specs.Table.{formOf};
 ghost use Rattle.words.specs.declared.Family.the-variants.{Low};
 ghost use Rattle.sums.specs.Sums.{Governs, laneSum};
 ghost use Rattle.sums.specs.Panel.{perSegment, columnSum, GovernedSegments};
@@ -59,12 +61,18 @@ fn long_low(n: &[u8], w: usize, q: usize, signed: bool) -> [u8; 16]
 }
 
 // The low sixteen bytes that a word of such a family leaves in its destination.
-pub fn low_bytes(low: LowFamily, f: Fields, k: usize, z: &[u8], p: &[u8]) -> [u8; 16]
-    requires { ⌜ ExecutableAs (Low low) f k (state (now z) (now p)) ⌝ }
+pub fn low_bytes(
+    low: LowFamily,
+    parameters: Parameters,
+    f: Fields,
+    k: usize,
+    z: &[u8],
+    p: &[u8],
+) -> [u8; 16]
+    requires { ⌜ ExecutableAs (Low low) f k (state (now z) (now p)) × (parameters ≡ formOf (f .row) .parameters) ⌝ }
     ensures { λ r. ⌜ r ≡ padded segmentBytes (writtenFor f k (state (now (z .entry)) (now (p .entry)))) ⌝ }
 {
-    let form = words::form_of(f.row);
-    let signed = form.parameters.signed;
+    let signed = parameters.signed;
     let w = lanes::width_of(f.size);
     let mask = registers::register(k, Kind::Predicate, p, f.g);
     let source = registers::register(k, Kind::Vector, z, f.n);

@@ -2,15 +2,16 @@
 -- read at their sign give back every integer that fits; extension to more digits keeps the integer.
 -- An integer is its part above zero less its part below; modulo M the part below counts M − 1 times.
 -- Assumes nothing.
-use Prim.Native.Nat.{ℕ, suc, _+_, _*_, _-_, _/_, _%_, _^_, _≤_, _<_}
-use mathlib.Core.Path.{_≡_, refl, sym, _∙_, ap}
+use Prim.Native.Nat.{ℕ, zero, suc, _+_, _*_, _-_, _/_, _%_, _^_, _≤_, _<_}
+use mathlib.Core.Path.{_≡_, refl, sym, _∙_, ap, ap₂}
 use mathlib.Core.Bool.{Bool, true, false, cond, not}
-use native.Mathlib.Nat.{mod-eq-of-lt, mod-lt, add-mod, add-mul-mod-self-left, mul-add, one-mul, mod-add-div', mul-zero, mul-comm, suc-mul, mul-suc, pow-suc}
+use native.Mathlib.Nat.{mod-eq-of-lt, mod-lt, add-mod, add-mul-mod-self-left, mul-add, one-mul, mod-add-div, mod-add-div', mul-zero, zero-mul, zero-add, mul-comm, suc-mul, mul-suc, pow-suc}
 use native.Mathlib.Omega.{arith}
 use lib.Dec.{T, ltb, ltb→lt, nltb→le}
+use lib.Bits.{bitXor, xor-comm, xor-shifted, xor-block, xor-zero-r}
 use lib.Pow.{pow-pos, pow-mono, pow-lt}
 use lib.IntN.{ℤ, pos, negsuc, subℕ, _+ℤ_, natAbs}
-use borrow.Author.Tests.{lt-ltb, le-leb, lt-leb, leb-true, leb-false}
+use borrow.Author.Tests.{lt-ltb, ltb-true, ltb-false, le-leb, lt-leb, leb-true, leb-false}
 use Rattle.parts.specs.Part.{both}
 use Rattle.lanes.specs.Integer.{isNegative, integer, residue, FitsAt}
 
@@ -157,3 +158,59 @@ pub top-digit : (D : ℕ) → 1 ≤ D → D ≤ 64 → 2 * ((1 * 2 ^ (D - 1)) % 
 top-digit D l m =
     rw (one-mul (2 ^ (D - 1)), mod-eq-of-lt {n = 2 ^ (D - 1)} {m = 2 ^ 64} (pow-lt {i = D - 1} {j = 64} (omega arith)))
     (mul-comm 2 (2 ^ (D - 1)) ∙ sym (pow-suc 2 (D - 1)) ∙ ap (λ (k : ℕ). 2 ^ k) (omega arith))
+
+-- a number of D digits with the highest turned over
+flipped : (d n : ℕ) → n < 2 ^ d + 2 ^ d → bitXor n (2 ^ d) ≡ cond (ltb n (2 ^ d)) (n + 2 ^ d) (n - 2 ^ d)
+flipped d n h = go (ltb n (2 ^ d)) refl
+  where
+    go : (t : Bool) → ltb n (2 ^ d) ≡ t → bitXor n (2 ^ d) ≡ cond t (n + 2 ^ d) (n - 2 ^ d)
+    go true l =
+        xor-comm n (2 ^ d)
+        ∙ ap (λ (k : ℕ). bitXor k n) (sym (one-mul (2 ^ d)))
+        ∙ xor-shifted 1 d n (ltb-true n (2 ^ d) l)
+        ∙ rw (one-mul (2 ^ d)) (omega arith)
+    go false l =
+        let above : n ≡ 1 * 2 ^ d + (n - 2 ^ d) = omega (arith, one-mul (2 ^ d), ltb-false n (2 ^ d) l) in
+        let only : 2 ^ d ≡ 1 * 2 ^ d + 0 = omega (arith, one-mul (2 ^ d)) in
+        ap₂ bitXor above only ∙ xor-block d 1 1 (n - 2 ^ d) 0 (omega arith) (pow-pos d) ∙ rw (xor-zero-r (n - 2 ^ d), zero-mul (2 ^ d)) (zero-add (n - 2 ^ d))
+
+-- extension by the sign as a difference: the highest digit turned over, less what it stands for
+pub extended-by-turning : (D n r : ℕ) → 1 ≤ D → D ≤ 64 → n < 2 ^ D → r < 2 ^ 64
+    → (r + (1 * 2 ^ (D - 1)) % 2 ^ 64) % 2 ^ 64 ≡ bitXor n ((1 * 2 ^ (D - 1)) % 2 ^ 64)
+    → r ≡ residue 64 (integer true D n)
+extended-by-turning D n r l m h small e = go (ltb n half) refl ∙ sym (extended true D 64 n m h)
+  where
+    half : ℕ
+    half = 2 ^ (D - 1)
+
+    shifted : (1 * 2 ^ (D - 1)) % 2 ^ 64 ≡ half
+    shifted = rw (one-mul (2 ^ (D - 1))) (mod-eq-of-lt {n = 2 ^ (D - 1)} {m = 2 ^ 64} (pow-lt {i = D - 1} {j = 64} (omega arith)))
+
+    twice : half + half ≡ 2 ^ D
+    twice = omega (arith, top-digit D l m, shifted)
+
+    fits : 2 ^ D ≤ 2 ^ 64
+    fits = pow-mono {i = D} {j = 64} m
+
+    turned : (r + half) % 2 ^ 64 ≡ cond (ltb n half) (n + half) (n - half)
+    turned = (rw shifted at e) ∙ flipped (D - 1) n (omega (arith, twice))
+
+    go : (t : Bool) → ltb n half ≡ t → r ≡ cond (isNegative D n) (n + (2 ^ 64 - 2 ^ D)) n
+    go true b =
+        rw (lt-leb (2 ^ D) (2 * n) (omega (arith, twice, ltb-true n half b)))
+        (omega (arith, rw b at turned, twice, fits, ltb-true n half b))
+    go false b =
+        rw (le-leb (2 ^ D) (2 * n) (omega (arith, twice, ltb-false n half b)))
+        (omega (arith, wraps, twice, fits, ltb-false n half b))
+      where
+        -- it wraps once, since the digits below the highest are fewer than that one stands for
+        back : n - half + 2 ^ 64 * ((r + half) / 2 ^ 64) ≡ r + half
+        back = ap (λ (k : ℕ). k + 2 ^ 64 * ((r + half) / 2 ^ 64)) (sym (rw b at turned)) ∙ mod-add-div (r + half) (2 ^ 64)
+
+        once : (q : ℕ) → n - half + 2 ^ 64 * q ≡ r + half → n - half + 2 ^ 64 ≡ r + half
+        once zero f = absurd (omega (arith, twice, ltb-false n half b))
+        once (suc zero) f = omega arith
+        once (suc (suc q)) f = absurd (omega (arith, twice, fits))
+
+        wraps : n - half + 2 ^ 64 ≡ r + half
+        wraps = once ((r + half) / 2 ^ 64) back

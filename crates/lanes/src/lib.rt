@@ -33,7 +33,7 @@ pub fn is_active(predicate: &[u8], w: usize, e: usize) -> bool
     (predicate[bit / 8] >> shift) % 2 == 1
 }
 
-// A lane's number extended to 64 bits by its sign.
+// A lane's number extended to 64 bits by its sign: with the top digit turned over, what that digit stands for is taken away again.
 pub fn extend(n: u64, w: usize, signed: bool) -> u64
     requires { ⌜ LaneNumber w n ⌝ }
     ensures { λ r. ⌜ r ≡ residue 64 (integer signed (bitsOf w) n) ⌝ }
@@ -42,10 +42,7 @@ pub fn extend(n: u64, w: usize, signed: bool) -> u64
         return n;
     }
     let half = 1u64 << (8 * w - 1);
-    if n < half {
-        return n;
-    }
-    n + ((u64::MAX - half) - (half - 1))
+    std::num::wrapping_sub_u64(n ^ half, half)
 }
 
 // Writes a number's low bytes into lane e of w bytes.

@@ -1,4 +1,4 @@
--- Sums of ranges of lanes modulo 2^64: of no lane, of a range that is split anywhere, and of one lane more.
+-- Sums of ranges of lanes modulo 2^64: of no lane and of one, of a range that is split anywhere, and of one lane more.
 -- Assumes nothing.
 use Prim.Native.Nat.{ℕ, _+_, _-_, _%_, _^_, _≤_}
 use mathlib.Core.Path.{_≡_, _∙_, ap}
@@ -39,12 +39,13 @@ module _ (signed : Bool) (w : ℕ) (predicate register : List ℕ) where
       there : a + (m - a) ≡ m
       there = omega arith
 
+  -- one lane by itself
+  pub sum-one : (a : ℕ) → sum a (a + 1) ≡ residue 64 (adds a)
+  sum-one a = ap (λ (n : ℕ). residue 64 (total (each adds a n))) one ∙ ap (residue 64) (+ℤ-idr (adds a))
+    where
+      one : a + 1 - a ≡ 1
+      one = omega arith
+
   -- one lane more
   pub sum-next : (a b : ℕ) → a ≤ b → sum a (b + 1) ≡ (sum a b + residue 64 (adds b)) % 2 ^ 64
-  sum-next a b h =
-      sum-split a b (b + 1) h (omega arith)
-      ∙ ap (λ (n : ℕ). (sum a b + residue 64 (total (each adds b n))) % 2 ^ 64) one
-      ∙ ap (λ (z : ℤ). (sum a b + residue 64 z) % 2 ^ 64) (+ℤ-idr (adds b))
-    where
-      one : b + 1 - b ≡ 1
-      one = omega arith
+  sum-next a b h = sum-split a b (b + 1) h (omega arith) ∙ ap (λ (n : ℕ). (sum a b + n) % 2 ^ 64) (sum-one b)

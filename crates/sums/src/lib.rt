@@ -1,6 +1,6 @@
 // Sums of a register's lanes: the active lanes in order, a range split at its middle, and the panel of segments with its column sums.
 ghost use mathlib.Core.Path.{_≡_};
-ghost use Prim.Native.Nat.{_%_, _^_};
+ghost use Prim.Native.Nat.{_+_, _%_, _^_, _≤_};
 ghost use Rattle.lanes.specs.Lane.{lane as laneAt, fromLanes};
 ghost use Rattle.lanes.specs.Integer.{residue};
 ghost use Rattle.lanes.specs.Sum.{activeElement};
@@ -37,12 +37,35 @@ fn sum_run(register: &[u8], predicate: &[u8], w: usize, signed: bool, a: usize, 
     sum
 }
 
-// The sum of the active lanes below count, lane by lane, modulo 2^64.
+// The sum of the active lanes below count, lane by lane, modulo 2^64. The widths of lanes are told apart, so that each is summed by code of
+// its own.
 pub fn sum_lanes(register: &[u8], predicate: &[u8], w: usize, signed: bool, count: usize) -> u64
     requires { ⌜ GovernedRange w 0 count (now predicate) (now register) ⌝ }
     ensures { λ r. ⌜ r ≡ laneSum signed w 0 count (now (predicate .entry)) (now (register .entry)) ⌝ }
 {
-    sum_run(register, predicate, w, signed, 0, count)
+    match w {
+        1 => sum_run(register, predicate, 1, signed, 0, count),
+        2 => sum_run(register, predicate, 2, signed, 0, count),
+        4 => sum_run(register, predicate, 4, signed, 0, count),
+        8 => sum_run(register, predicate, 8, signed, 0, count),
+        _ => sum_run(register, predicate, w, signed, 0, count),
+    }
+}
+
+// The sum of the active lanes of a range of at most two, modulo 2^64, each lane read where it stands.
+fn sum_few(register: &[u8], predicate: &[u8], w: usize, signed: bool, a: usize, b: usize) -> u64
+    requires { ⌜ GovernedRange w a b (now predicate) (now register) × (b ≤ a + 2) ⌝ }
+    ensures { λ r. ⌜ r ≡ laneSum signed w a b (now (predicate .entry)) (now (register .entry)) ⌝ }
+{
+    if a == b {
+        return 0;
+    }
+    let first = lane_value(register, predicate, w, signed, a);
+    if b - a == 1 {
+        return first;
+    }
+    let second = lane_value(register, predicate, w, signed, a + 1);
+    std::num::wrapping_add_u64(first, second)
 }
 
 // The sum of the active lanes from a up to but without b, modulo 2^64: the range is split at its middle and each half summed the same
@@ -58,8 +81,8 @@ pub fn sum_between(
     requires { ⌜ GovernedRange w a b (now predicate) (now register) ⌝ }
     ensures { λ r. ⌜ r ≡ laneSum signed w a b (now (predicate .entry)) (now (register .entry)) ⌝ }
 {
-    if b - a <= 1 {
-        return sum_run(register, predicate, w, signed, a, b);
+    if b - a <= 2 {
+        return sum_few(register, predicate, w, signed, a, b);
     }
     let middle = a + (b - a) / 2;
     let low = sum_between(register, predicate, w, signed, a, middle);

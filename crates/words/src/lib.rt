@@ -147,11 +147,10 @@ pub fn form_of(i: usize) -> Form
     Form { family, parameters }
 }
 
-// Whether a word is of the row at a place.
-fn matches(i: usize, word: u32) -> bool
-    ensures { λ r. ⌜ r ≡ matches (rowAt i) word ⌝ }
+// Whether a word is of a row.
+fn matches(row: Row, word: u32) -> bool
+    ensures { λ r. ⌜ r ≡ matches row word ⌝ }
 {
-    let row = row_at(i);
     word & row.1 == row.2
 }
 
@@ -159,9 +158,10 @@ fn matches(i: usize, word: u32) -> bool
 fn row_of(word: u32) -> usize
     ensures { λ r. ⌜ r ≡ rowOf word ⌝ }
 {
+    let table = TABLE;
     let mut i = 0;
     while i < ROWS {
-        if matches(i, word) {
+        if matches(table[i], word) {
             return i;
         }
         i += 1;

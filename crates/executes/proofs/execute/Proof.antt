@@ -10,7 +10,7 @@ use lib.ListN.{length}
 use Rattle.machine.specs.Size.{vectorBytes, segmentBytes}
 use Rattle.registers.specs.Register.{padded, withVector}
 use Rattle.registers.specs.State.{state}
-use Rattle.words.specs.Table.{familyOf}
+use Rattle.words.specs.Table.{formOf, familyOf}
 use Rattle.words.specs.declared.Form.{Form}
 use Rattle.words.specs.declared.Family.the-variants.{Low, Wide}
 use Rattle.executes.specs.Execute.{writtenFor}
@@ -29,6 +29,10 @@ low-is c = sym (ap (λ (form : Form). form .family) (c .before .before .form-of 
 wide-is : (c : tie.After-family2) → familyOf (c .before .before .before .before .before .args .f .row) ≡ Wide (c .family2 .given .0 .0)
 wide-is c = sym (ap (λ (form : Form). form .family) (c .before .before .form-of .ensures)) ∙ c .family2 .given .1
 
+-- its parameters are its form's
+parameters-are : (c : tie.After-form-of) → c .form-of .result .parameters ≡ formOf (c .before .before .before .args .f .row) .parameters
+parameters-are c = ap (λ (form : Form). form .parameters) (c .form-of .ensures)
+
 -- what is written
 abbrev writes : tie.Start → List ℕ
 writes s = writtenFor (s .args .f) (s .args .k) (state (s .args .z .now) (s .args .p .now))
@@ -41,7 +45,10 @@ low-sized : (c : tie.After-low-bytes) → length (c .low-bytes .result) ≡ segm
 low-sized c = ap length (c .low-bytes .ensures) ∙ length-padded segmentBytes (writes (low-start c)) (low-fits c)
 
 low-bytes-requires : tie.Need-low-bytes-requires
-low-bytes-requires c κs = record { word = c .before .before .before .before .before .before .before .pre; is = low-is (c .before .before) }
+low-bytes-requires c κs = (
+  record { word = c .before .before .before .before .before .before .before .pre; is = low-is (c .before .before) },
+  parameters-are (c .before .before .before .before),
+)
 
 write-register-requires : tie.Need-write-register-requires
 write-register-requires c κs =
@@ -49,7 +56,10 @@ write-register-requires c κs =
     (vector-in _ _ _ h _ (h .fields .d), omega (arith, low-sized (c .before .before), k-least _ _ _ h))
 
 write-lanes-requires : tie.Need-write-lanes-requires
-write-lanes-requires c κs = record { word = c .before .before .before .before .before .before .before .pre; is = wide-is (c .before .before) }
+write-lanes-requires c κs = (
+  record { word = c .before .before .before .before .before .before .before .pre; is = wide-is (c .before .before) },
+  parameters-are (c .before .before .before .before),
+)
 
 returns : tie.Need-returns
 returns c =

@@ -13,7 +13,7 @@ use Rattle.sums.proofs.sum_between.Reads as sum-between
 use Rattle.sums.proofs.sum_between.Kinds as sum-between-kinds
 use Rattle.sums.proofs.+sum_between.Lts-sum_between as sum-between-lts
 use Rattle.std.proofs.num.wrapping_add_u64.Reads as wrapping-add-u64-reads
-use Rattle.sums.proofs.sum_run.Reads as sum-run-reads
+use Rattle.sums.proofs.sum_few.Reads as sum-few-reads
 use Rattle.sums.proofs.+sum_between.{statement}
 use Rattle.sums.proofs.+sum_between.Tie.{close}
 
@@ -31,8 +31,8 @@ sum-between-below t =
 -- what the calls ask and tell
 abbrev callees : ℕ → sum-between-lts.Claims
 callees t = (
-  sum-run-reads.Asked,
-  sum-run-reads.Learnt,
+  sum-few-reads.Asked,
+  sum-few-reads.Learnt,
   sum-between-below t,
   sum-between.Post,
   wrapping-add-u64-reads.Asked,
@@ -42,11 +42,11 @@ callees t = (
 sum-between-sub-if1 : (t : ℕ) → sum-between-lts.Need-sub-if1 (callees t) (sum-between-at t) sum-between.Post
 sum-between-sub-if1 t c = omega arith
 
-sum-between-sum-run-requires : (t : ℕ) → sum-between-lts.Need-sum-run-requires (callees t) (sum-between-at t) sum-between.Post
-sum-between-sum-run-requires t c κs = c .before .before .before .pre .1
+sum-between-sum-few-requires : (t : ℕ) → sum-between-lts.Need-sum-few-requires (callees t) (sum-between-at t) sum-between.Post
+sum-between-sum-few-requires t c κs = (c .before .before .before .pre .1, omega arith)
 
 sum-between-returns : (t : ℕ) → sum-between-lts.Need-returns (callees t) (sum-between-at t) sum-between.Post
-sum-between-returns t c = c .sum-run .ensures
+sum-between-returns t c = c .sum-few .ensures
 
 sum-between-sub-middle : (t : ℕ) → sum-between-lts.Need-sub-middle (callees t) (sum-between-at t) sum-between.Post
 sum-between-sub-middle t c = omega arith
@@ -82,7 +82,7 @@ pub +sum-between-spec : {M : Type 1} → statement M
     (sum-between-at t)
     sum-between.Post
     (sum-between-sub-if1 t)
-    (sum-between-sum-run-requires t)
+    (sum-between-sum-few-requires t)
     (sum-between-returns t)
     (sum-between-sub-middle t)
     (sum-between-add-middle t)

@@ -1,6 +1,5 @@
 -- `matches` meets its contract: the machine's AND of a word is that of its digits.
 -- Assumes nothing.
-use borrow.Author.Needs.{needs}
 use Rattle.words.specs.Digits.{wordDigits}
 use Rattle.words.specs.Table.{matches}
 use Rattle.words.proofs.Digits.{and-digits}
@@ -9,7 +8,7 @@ use Rattle.words.proofs.matches.Tie as tie
 
 returns : tie.Need-returns
 unfolding matches
-returns c = rw (c .before .before .row-at .ensures, and-digits wordDigits _ _ (c .before .before .before .fits .word .fits))
+returns c = rw (and-digits wordDigits _ _ (c .before .before .fits .word .fits))
 
 pub matches-spec : {M : Type 1} → statement M
-matches-spec = tie.close (tie.spec (λ c κs. search needs) returns)
+matches-spec = tie.close (tie.spec returns)

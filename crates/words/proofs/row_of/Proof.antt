@@ -1,42 +1,48 @@
 -- `row_of` meets its contract. The invariant: the search from place i on finds what the whole search finds. The measure is the rows left.
 -- Assumes nothing.
 use borrow.Author.Needs.{needs}
-use mathlib.Core.Path.{_≡_, refl, sym, _∙_}
+use mathlib.Core.Path.{_≡_, refl, sym, _∙_, ap}
 use Prim.Native.Nat.{ℕ, _≤_, _-_}
 use native.Mathlib.Omega.{arith}
 use lib.ListN.{drop}
-use Rattle.words.specs.Table.{table, rows, rowOf, placeFrom}
-use Rattle.words.proofs.Rows.{place-here, place-next}
+use Rattle.words.specs.Table.{table, noRow, rows, rowAt, rowOf, matches, placeFrom}
+use Rattle.words.specs.declared.Row.{Row}
+use Rattle.words.proofs.Rows.{at-any, place-here, place-next}
 use Rattle.words.proofs.row_of.Statement.{statement}
 use Rattle.words.proofs.row_of.Tie as tie
 
 abbrev Inv-loop : tie.InvT-loop
-Inv-loop word i₀ i = (i ≤ rows) × (placeFrom i (drop i table) word ≡ rowOf word)
+Inv-loop word lines i₀ i = (i ≤ rows) × (placeFrom i (drop i table) word ≡ rowOf word)
 
 abbrev μ-loop : tie.MeasureT-loop
-μ-loop word i₀ i = rows - i
+μ-loop word lines i₀ i = rows - i
 
 loop-holds : tie.Need-loop-holds Inv-loop μ-loop
 unfolding rowOf
 loop-holds c = (omega arith, refl)
 
--- within the loop, and at its head
+-- within the loop
 abbrev in-loop : tie.After-matches Inv-loop μ-loop → tie.In-loop Inv-loop μ-loop
-in-loop c = c .before
+in-loop c = c .before .before
 
 found : (c : tie.After-matches Inv-loop μ-loop)
     → placeFrom (in-loop c .before .loop .i) (drop (in-loop c .before .loop .i) table) (in-loop c .before .before .args .word)
     ≡ rowOf (in-loop c .before .before .args .word)
 found c = in-loop c .before .loop .inv .1
 
+-- the row that is tried is the table's at the place
+tried : (c : tie.After-matches Inv-loop μ-loop)
+    → c .matches .result ≡ matches (rowAt (in-loop c .before .loop .i)) (in-loop c .before .before .args .word)
+unfolding rowAt
+tried c =
+    c .matches .ensures
+    ∙ ap (λ (row : Row). matches row (in-loop c .before .before .args .word)) (at-any table (in-loop c .before .loop .i) _ noRow (in-loop c .loop-test .taken))
+
 returns : tie.Need-returns Inv-loop μ-loop
-returns c = sym (place-here _ _ (in-loop (c .before) .loop-test .taken) (sym (c .before .matches .ensures) ∙ c .if1 .taken)) ∙ found (c .before)
+returns c = sym (place-here _ _ (in-loop (c .before) .loop-test .taken) (sym (tried (c .before)) ∙ c .if1 .taken)) ∙ found (c .before)
 
 loop-again : tie.Need-loop-again Inv-loop μ-loop
-loop-again c = (
-  omega arith,
-  sym (place-next _ _ (in-loop (c .before) .loop-test .taken) (sym (c .before .matches .ensures) ∙ c .if1 .left)) ∙ found (c .before),
-)
+loop-again c = (omega arith, sym (place-next _ _ (in-loop (c .before) .loop-test .taken) (sym (tried (c .before)) ∙ c .if1 .left)) ∙ found (c .before))
 
 -- past the last row the search stops
 past : (i word : ℕ) → i ≡ rows → placeFrom i (drop i table) word ≡ rowOf word → i ≡ rowOf word
@@ -47,4 +53,4 @@ returns-2 : tie.Need-returns-2 Inv-loop μ-loop
 returns-2 c = past _ _ (omega arith) (c .before .loop .inv .1)
 
 pub row-of-spec : {M : Type 1} → statement M
-row-of-spec = tie.close (tie.spec Inv-loop μ-loop loop-holds (λ c κs. search needs) returns (λ c. search needs) (λ c. omega arith) loop-again returns-2)
+row-of-spec = tie.close (tie.spec Inv-loop μ-loop loop-holds (λ c. search needs) (λ c. search needs) (λ c κs. search needs) returns (λ c. search needs) (λ c. omega arith) loop-again returns-2)

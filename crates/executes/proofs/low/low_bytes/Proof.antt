@@ -17,24 +17,24 @@ use Rattle.executes.proofs.low.low_bytes.Tie as tie
 
 -- where the registers are read from
 abbrev start : tie.After-register2 → tie.Start
-start c = c .before .before .before .before .before .before
+start c = c .before .before .before .before .before
 
 register-requires : tie.Need-register-requires
-register-requires c κs = governing-in _ _ _ (c .before .before .before .before .pre .word)
+register-requires c κs = governing-in _ _ _ (c .before .before .before .pre .0 .word)
 
 register-requires-2 : tie.Need-register-requires-2
-register-requires-2 c κs = let h = c .before .before .before .before .before .pre .word in vector-in _ _ _ h _ (h .fields .n)
+register-requires-2 c κs = let h = c .before .before .before .before .pre .0 .word in vector-in _ _ _ h _ (h .fields .n)
 
 reduction-low-requires : tie.Need-reduction-low-requires
 reduction-low-requires c κs =
     let r = c .before .before in
-    let h = start r .pre .word in
+    let h = start r .pre .0 .word in
     rw (r .before .before .width-of .ensures, r .before .register .ensures, r .register2 .ensures) (governs _ _ _ h _ (h .fields .n))
 
 segment-low-requires : tie.Need-segment-low-requires
 segment-low-requires c κs =
     let r = c .before .before in
-    let h = start r .pre .word in
+    let h = start r .pre .0 .word in
     let size = vector-length _ _ _ h _ (h .fields .n) in
     rw (r .before .before .width-of .ensures, r .before .register .ensures, r .register2 .ensures)
     (record {
@@ -46,7 +46,7 @@ segment-low-requires c κs =
 long-low-requires : tie.Need-long-low-requires
 long-low-requires c κs =
     let r = c .before .before in
-    let h = start r .pre .word in
+    let h = start r .pre .0 .word in
     rw (r .before .before .width-of .ensures, r .register2 .ensures)
     (record {
       least = width-legal _ (h .fields .size) .0;
@@ -58,26 +58,25 @@ long-low-requires c κs =
 returns : tie.Need-returns
 returns c =
     let r = c .before .before .before in
-    (rw (r .before .before .before .form-of .ensures, r .before .before .width-of .ensures, r .before .register .ensures, r .register2 .ensures) at (c .reduction-low .ensures))
-    ∙ ap (padded segmentBytes) (written-reduction _ _ _ (start r .pre .word) (start r .pre .is ∙ ap Low (c .before .enum-told .given .1)))
+    (rw (r .before .before .width-of .ensures, r .before .register .ensures, r .register2 .ensures) at (c .reduction-low .ensures))
+    ∙ ap (padded segmentBytes) (written-reduction _ _ _ (start r .pre .0 .word) _ (start r .pre .1) (start r .pre .0 .is ∙ ap Low (c .before .enum-told .given .1)))
 
 returns-2 : tie.Need-returns-2
 returns-2 c =
     let r = c .before .before .before in
     (rw (r .before .before .width-of .ensures, r .before .register .ensures, r .register2 .ensures) at (c .segment-low .ensures))
-    ∙ written-segment _ _ _ (start r .pre .word) (start r .pre .is ∙ ap Low (c .before .enum-told2 .given .1))
+    ∙ written-segment _ _ _ (start r .pre .0 .word) (start r .pre .0 .is ∙ ap Low (c .before .enum-told2 .given .1))
 
 returns-3 : tie.Need-returns-3
 returns-3 c =
     let r = c .before .before .before in
-    (rw (r .before .before .before .form-of .ensures, r .before .before .width-of .ensures, r .register2 .ensures) at (c .long-low .ensures))
-    ∙ ap (padded segmentBytes) (written-long _ _ _ (start r .pre .word) (start r .pre .is ∙ ap Low (c .before .enum-told3 .given .1)))
+    (rw (r .before .before .width-of .ensures, r .register2 .ensures) at (c .long-low .ensures))
+    ∙ ap (padded segmentBytes) (written-long _ _ _ (start r .pre .0 .word) _ (start r .pre .1) (start r .pre .0 .is ∙ ap Low (c .before .enum-told3 .given .1)))
 
 pub low-bytes-spec : {M : Type 1} → statement M
 low-bytes-spec =
     tie.close
     (tie.spec
-    (λ c κs. search needs)
     (λ c κs. search needs)
     register-requires
     register-requires-2

@@ -1,4 +1,4 @@
--- `write_lane` meets its contract: the lane lies within the destination, that one within the file, and the lane's bytes come back between the
+-- `write_lane` meets its contract: the lane lies within its register, that one within the file, and the lane's bytes come back between the
 -- bytes around them.
 -- Assumes nothing.
 use borrow.Author.Needs.{needs}
@@ -14,39 +14,38 @@ use Rattle.parts.specs.Part.{part}
 use Rattle.parts.specs.Number.{bytesOf, withNumber}
 use Rattle.parts.proofs.Parts.{length-part}
 use Rattle.parts.proofs.Put.{put-part}
-use Rattle.executes.proofs.InPlace.{lane-within}
-use Rattle.executes.proofs.Sizes.{k-most}
+use Rattle.registers.specs.declared.Kind.the-variants.{Vector}
+use Rattle.registers.proofs.Places.{register-inside}
 use Rattle.executes.proofs.wide.write_lane.Statement.{statement}
 use Rattle.executes.proofs.wide.write_lane.Tie as tie
 
 -- the lane's bytes given back with a number in all of them
-put-lane : (at place e v w n m : ℕ) (file back : List ℕ) → at + e * v + v ≤ length file → at ≡ place → v ≡ w → n ≡ m
-    → back ≡ withNumber 0 v n (take (at + e * v + v - (at + e * v)) (drop (at + e * v) file))
-    → putMid (at + e * v) (at + e * v + v - (at + e * v)) file back ≡ withNumber (place + e * w) w m file
-put-lane at place e v w n m file back fits a b c is =
-    put-part start (start + v) file back (omega arith)
-    ∙ ap (λ (bytes : List ℕ). take start file ++ bytes ++ drop (start + v) file) (is ∙ all)
-    ∙ rw (a, b, c)
+put-lane : (at place e w n : ℕ) (file back : List ℕ) → at + e * w + w ≤ length file → at ≡ place
+    → back ≡ withNumber 0 w n (take (at + e * w + w - (at + e * w)) (drop (at + e * w) file))
+    → putMid (at + e * w) (at + e * w + w - (at + e * w)) file back ≡ withNumber (place + e * w) w n file
+put-lane at place e w n file back fits a is =
+    put-part start (start + w) file back (omega arith)
+    ∙ ap (λ (bytes : List ℕ). take start file ++ bytes ++ drop (start + w) file) (is ∙ all)
+    ∙ rw a
   where
     start : ℕ
-    start = at + e * v
+    start = at + e * w
 
-    all : withNumber 0 v n (take (start + v - start) (drop start file)) ≡ bytesOf v n
+    all : withNumber 0 w n (take (start + w - start) (drop start file)) ≡ bytesOf w n
     all =
-        rw (zero-add v, add-sub-cancel-left start v)
-        (ap (λ (rest : List ℕ). bytesOf v n ++ rest) (drop-of-length-le (part start v file) {i = v} (omega (arith, length-part start v file fits)))
-        ∙ append-nil (bytesOf v n))
+        rw (zero-add w, add-sub-cancel-left start w)
+        (ap (λ (rest : List ℕ). bytesOf w n ++ rest) (drop-of-length-le (part start w file) {i = w} (omega (arith, length-part start w file fits)))
+        ∙ append-nil (bytesOf w n))
 
--- the places, and the lane within the file
+-- where the register starts, and the lane within the file
 abbrev start : tie.After-register-at → tie.Start
-start c = c .before .before .before .before .before
+start c = c .before .before
 
 within : (c : tie.After-register-at)
     → c .register-at .result + start c .args .e * start c .args .w + start c .args .w ≤ length (now (start c .args .z))
-within c = let h = start c .pre in lane-within _ _ _ _ (h .word) _ _ _ (c .register-at .ensures) (h .width) (h .inside)
-
-register-at-requires : tie.Need-register-at-requires
-register-at-requires c κs = let h = c .before .before .before .before .pre .word .word in (k-most _ _ _ h, h .fields .d)
+within c =
+    let s = start c in
+    omega (arith, c .register-at .ensures, s .pre .1, register-inside (s .args .k) Vector (s .args .d) (now (s .args .z)) (s .pre .0))
 
 mul-at : tie.Need-mul-at
 mul-at c = omega (arith, within c)
@@ -64,15 +63,13 @@ returns : tie.Need-returns
 returns c =
     let w = c .before .before in
     let r = w .before .before in
-    let s = start r in
-    put-lane _ _ _ _ _ _ _ _ _ (within r) (r .register-at .ensures) (s .pre .width) (r .before .lane-after .ensures) (w .put-number .ensures)
+    put-lane _ _ _ _ _ _ _ (within r) (r .register-at .ensures) (w .put-number .ensures)
 
 pub write-lane-spec : {M : Type 1} → statement M
 write-lane-spec =
     tie.close
     (tie.spec
     (λ c κs. search needs)
-    register-at-requires
     mul-at
     add-at
     add-end

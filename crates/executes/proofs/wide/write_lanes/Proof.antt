@@ -1,112 +1,102 @@
--- `write_lanes` meets its contract: after e turns the first e lanes of the destination are written and all else is as it was; what the next
--- lane reads is still there, and after the last lane the file is what the word leaves.
+-- `write_lanes` meets its contract: in each arm the family is the arm's and the width the arm's number, eight where it is neither two nor four.
 -- Assumes nothing.
 use borrow.Author.Needs.{needs}
-use Prim.Native.Nat.{ℕ, _-_, _/_, _≤_, _<_}
-use mathlib.Core.Path.{_≡_, sym, _∙_, ap, ap₂}
-use native.Mathlib.Nat.{div-le-self}
+use Prim.Native.Nat.{ℕ}
+use mathlib.Core.Path.{_≡_, sym, _∙_}
 use native.Mathlib.Omega.{arith}
 use denote.Ref.{now}
-use lib.ListN.{length}
-use Rattle.machine.specs.Size.{vectorBytes}
 use Rattle.registers.specs.State.{State, state}
 use Rattle.lanes.specs.Lane.{widthOf}
-use Rattle.words.specs.declared.Form.{Form}
+use Rattle.words.specs.Table.{formOf}
+use Rattle.words.specs.declared.Fields.{Fields}
+use Rattle.words.specs.declared.Parameters.{Parameters}
 use Rattle.words.specs.declared.Family.the-variants.{Wide}
-use Rattle.sums.proofs.Accepted.{width-legal}
-use Rattle.executes.specs.Needs.{ExecutableAs}
-use Rattle.executes.proofs.Sizes.{k-most}
-use Rattle.executes.proofs.InPlace.{fileAfter, length-after, ahead, after-none, after-next, after-all}
+use Rattle.words.specs.declared.WideFamily.{WideFamily}
+use Rattle.executes.specs.Needs.{ExecutableAs, WideLanes}
+use Rattle.executes.proofs.Sizes.{wide-eight}
 use Rattle.executes.proofs.wide.write_lanes.Statement.{statement}
 use Rattle.executes.proofs.wide.write_lanes.Tie as tie
 
-abbrev Inv-loop : tie.InvT-loop
-Inv-loop wide f k z₀ p parameters w count e₀ z e = (e ≤ count) × (z ≡ fileAfter f k (state z₀ p) e)
+-- the word as an arm takes it
+as-arm : (wide arm : WideFamily) (ps : Parameters) (w v : ℕ) (f : Fields) (k : ℕ) (s : State) → ExecutableAs (Wide wide) f k s × (ps ≡ formOf (f .row) .parameters)
+    → wide ≡ arm
+    → w ≡ widthOf (f .size)
+    → w ≡ v
+    → WideLanes arm ps v f k s
+as-arm wide arm ps w v f k s h family is number = record { word = rw family at (h .0); parameters = h .1; width = sym number ∙ is }
 
-abbrev μ-loop : tie.MeasureT-loop
-μ-loop wide f k z₀ p parameters w count e₀ z e = count - e
+-- where the word stands
+abbrev begin : tie.After-width-of → tie.Start
+begin c = c .before .before .before
 
--- before the loop: the start, the word, and how many turns there are
-abbrev Ready : Type 0
-Ready = tie.After-register-bytes Inv-loop μ-loop
+-- what is neither two nor four is eight
+last : (wide : WideFamily) (f : Fields) (k : ℕ) (s : State) → ExecutableAs (Wide wide) f k s → (w : ℕ) → w ≡ widthOf (f .size) → (w ≡ 2 → ⊥) → (w ≡ 4 → ⊥) → w ≡ 8
+last wide f k s h w is not2 not4 = is ∙ wide-eight f k s (h .word) wide (h .is) (λ e. not2 (is ∙ e)) (λ e. not4 (is ∙ e))
 
-abbrev start : Ready → tie.Start Inv-loop μ-loop
-start c = c .before .before .before .before .before .before
+pairwise-lanes-requires : tie.Need-pairwise-lanes-requires
+pairwise-lanes-requires c κs =
+    let t = c .before .before in
+    let o = t .before .before in
+    let is : o .width-of .result ≡ 2 = omega arith in
+    as-arm _ _ _ _ _ _ _ _ (begin o .pre) (t .enum-told .given .1) (o .width-of .ensures) is
 
-abbrev before : tie.Start Inv-loop μ-loop → State
-before s = state (now (s .args .z)) (now (s .args .p))
+pairwise-lanes-requires-2 : tie.Need-pairwise-lanes-requires-2
+pairwise-lanes-requires-2 c κs =
+    let t = c .before .before in
+    let o = t .before .before in
+    let is : o .width-of .result ≡ 4 = omega arith in
+    as-arm _ _ _ _ _ _ _ _ (begin o .pre) (t .enum-told .given .1) (o .width-of .ensures) is
 
-abbrev word : (c : Ready) → ExecutableAs (Wide (start c .args .wide)) (start c .args .f) (start c .args .k) (before (start c))
-word c = start c .pre
+pairwise-lanes-requires-3 : tie.Need-pairwise-lanes-requires-3
+pairwise-lanes-requires-3 c κs =
+    let t = c .before .before in
+    let o = t .before .before in
+    let is : o .width-of .result ≡ 8 = last _ _ _ _ (begin o .pre .0) _ (o .width-of .ensures) (c .before .match2 .rest .0 .1) (c .before .match2 .rest .1) in
+    as-arm _ _ _ _ _ _ _ _ (begin o .pre) (t .enum-told .given .1) (o .width-of .ensures) is
 
-abbrev lanes : Ready → ℕ
-lanes c = vectorBytes (start c .args .k) / widthOf (start c .args .f .size)
+widening-lanes-requires : tie.Need-widening-lanes-requires
+widening-lanes-requires c κs =
+    let t = c .before .before in
+    let o = t .before .before in
+    let is : o .width-of .result ≡ 2 = omega arith in
+    as-arm _ _ _ _ _ _ _ _ (begin o .pre) (t .enum-told2 .given .1) (o .width-of .ensures) is
 
-width-is : (c : Ready) → c .before .width-of .result ≡ widthOf (start c .args .f .size)
-width-is c = c .before .width-of .ensures
+widening-lanes-requires-2 : tie.Need-widening-lanes-requires-2
+widening-lanes-requires-2 c κs =
+    let t = c .before .before in
+    let o = t .before .before in
+    let is : o .width-of .result ≡ 4 = omega arith in
+    as-arm _ _ _ _ _ _ _ _ (begin o .pre) (t .enum-told2 .given .1) (o .width-of .ensures) is
 
-count-is : (c : Ready) → c .register-bytes .result / c .before .width-of .result ≡ lanes c
-count-is c = ap₂ (λ (bytes w : ℕ). bytes / w) (c .register-bytes .ensures) (width-is c)
-
--- the lane of a turn is one of them
-turn : (c : tie.In-loop Inv-loop μ-loop) → c .before .loop .e < lanes (c .before .before)
-turn c = omega (arith, c .loop-test .taken, count-is (c .before .before))
-
-register-bytes-requires : tie.Need-register-bytes-requires Inv-loop μ-loop
-register-bytes-requires c κs = k-most _ _ _ (c .before .before .before .before .before .pre .word)
-
-div-count : tie.Need-div-count Inv-loop μ-loop
-div-count c = omega (arith, width-is c, width-legal _ (word c .word .fields .size) .0)
-
-loop-holds : tie.Need-loop-holds Inv-loop μ-loop
-loop-holds c = (omega arith, sym (after-none _ _ _ _ (word c)))
-
-write-lane-requires : tie.Need-write-lane-requires Inv-loop μ-loop
-write-lane-requires c κs =
-    let l = c .before in
-    let r = l .before .before in
-    ahead _ _ _ _ (word r) _ (turn l) _ _ _ (ap (λ (form : Form). form .parameters) (r .before .before .before .form-of .ensures)) (width-is r) (l .before .loop .inv .1)
-
-add-e : tie.Need-add-e Inv-loop μ-loop
-add-e c =
-    let l = c .before .before .before .before in
-    let r = l .before .before in
-    omega (arith, turn l, div-le-self (vectorBytes (start r .args .k)) (widthOf (start r .args .f .size)), k-most _ _ _ (word r .word))
-
-loop-again : tie.Need-loop-again Inv-loop μ-loop
-loop-again c =
-    let l = c .before .before .before .before in
-    let r = l .before .before in (
-      omega (arith, l .loop-test .taken),
-      c .before .before .write-lane .ensures ∙ after-next _ _ _ _ (word r) _ (turn l) _ (l .before .loop .inv .1),
-    )
-
-same-length : tie.Need-same-length Inv-loop μ-loop
-same-length c =
-    let r = c .before .before in
-    let some : c .before .loop .e ≤ lanes r = omega (arith, c .before .loop .inv .0, count-is r) in
-    ap length (c .before .loop .inv .1) ∙ length-after _ _ _ _ (word r) _ some
-
-returns : tie.Need-returns Inv-loop μ-loop
-returns c =
-    let r = c .before .before in
-    let end : c .before .loop .e ≡ lanes r = omega (arith, c .loop-test .left, c .before .loop .inv .0, count-is r) in
-    c .before .loop .inv .1 ∙ ap (fileAfter (start r .args .f) (start r .args .k) (before (start r))) end ∙ after-all _ _ _ _ (word r)
+widening-lanes-requires-3 : tie.Need-widening-lanes-requires-3
+widening-lanes-requires-3 c κs =
+    let t = c .before .before in
+    let o = t .before .before in
+    let is : o .width-of .result ≡ 8 = last _ _ _ _ (begin o .pre .0) _ (o .width-of .ensures) (c .before .match3 .rest .0 .1) (c .before .match3 .rest .1) in
+    as-arm _ _ _ _ _ _ _ _ (begin o .pre) (t .enum-told2 .given .1) (o .width-of .ensures) is
 
 pub write-lanes-spec : {M : Type 1} → statement M
 write-lanes-spec =
     tie.close
     (tie.spec
-    Inv-loop
-    μ-loop
     (λ c κs. search needs)
-    (λ c κs. search needs)
-    register-bytes-requires
-    div-count
-    loop-holds
-    write-lane-requires
-    add-e
-    (λ c. omega arith)
-    loop-again
-    same-length
-    returns)
+    (λ c. search needs)
+    pairwise-lanes-requires
+    pairwise-lanes-requires-2
+    pairwise-lanes-requires-3
+    (λ c. search needs)
+    widening-lanes-requires
+    widening-lanes-requires-2
+    widening-lanes-requires-3
+    (λ c. search needs)
+    (λ c. search needs)
+    (λ c. search needs)
+    (λ c. search needs)
+    (λ c. search needs)
+    (λ c. search needs)
+    (λ c. search needs)
+    (λ c. search needs)
+    (λ c. search needs)
+    (λ c. search needs)
+    (λ c. search needs)
+    (λ c. search needs))
