@@ -218,8 +218,8 @@ pub record AcceptedPosition (k : ℕ) (journal : List ℕ) : Type 0 where
 pub position-accepted : (k : ℕ) (journal : List ℕ) → positionRefused k journal ≡ 0 → AcceptedPosition k journal
 unfolding positionRefused
 position-accepted k journal e =
-    let both = none-refused (lengthTests k) tt (refused (journalTests k journal)) e in
-    record { legal = length-legal k _ refl (both .0); formed = journal-checked k _ journal refl (both .1) }
+    let none = none-refused (lengthTests k) tt (refused (journalTests k journal)) e in
+    record { legal = length-legal k _ refl (none .0); formed = journal-checked k _ journal refl (none .1) }
 
 -- and a legal length with a well-formed journal is all that it asks
 pub position-accepts : (k : ℕ) (journal : List ℕ) → isLegal k ≡ true → Formed k journal → positionRefused k journal ≡ 0
