@@ -59,7 +59,7 @@ extern "C" {
 #endif
 
 /* The version of this header and its library. It grows with every change that a program can notice. */
-#define LN_VERSION 1
+#define LN_VERSION 2
 
 /* The versions of the stored forms. */
 #define LN_JOURNAL_VERSION 1
@@ -254,6 +254,11 @@ uint64_t ln_step(size_t k, uint8_t *z, size_t z_len, const uint8_t *p, size_t p_
  * LN_LENGTH, LN_FILE, LN_ROOM, LN_JOURNAL, LN_EMPTY. */
 uint64_t ln_back(size_t k, uint8_t *z, size_t z_len, const uint8_t *p, size_t p_len,
                  uint8_t *journal, size_t journal_len);
+
+/* The journal's position: 0 after ln_fresh, one more after a step that was done, one less after such a
+ * step back. No file is needed, and nothing is written.
+ * LN_LENGTH, LN_ROOM, LN_JOURNAL. */
+struct ln_answer ln_position(size_t k, const uint8_t *journal, size_t journal_len);
 
 /* Where a register's bytes stand, for drawing. `predicate` is 0 for a vector register; every other
  * number asks for a predicate register.
