@@ -97,9 +97,9 @@ position-of-back k s journal r after former made done =
     let legal = b .sized .legal in
     rw (made .bytes ∙ b .bytes)
     (record {
-      position = heldOf journal - 1;
-      before = told k (heldOf journal - 1) (popped k journal) legal (formed-popped k journal (b .formed) (b .some)) (fewer k journal (b .formed) (b .some));
-      after = told k (heldOf journal - 1 + 1) journal legal (b .formed) (omega (arith, b .some));
+      position = positionOf journal - 1;
+      before = told k (positionOf journal - 1) (popped k journal) legal (formed-popped k journal (b .formed) (b .some)) (fewer k journal (b .formed) (b .some));
+      after = told k (positionOf journal - 1 + 1) journal legal (b .formed) (omega (arith, b .some));
     })
 
 -- after any steps from a fresh start it is as many as the accepted steps forward exceed those back
