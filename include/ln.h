@@ -255,6 +255,11 @@ uint64_t ln_step(size_t k, uint8_t *z, size_t z_len, const uint8_t *p, size_t p_
 uint64_t ln_back(size_t k, uint8_t *z, size_t z_len, const uint8_t *p, size_t p_len,
                  uint8_t *journal, size_t journal_len);
 
+/* The journal's position: 0 after ln_fresh, one more after a step that was done, one less after such a
+ * step back. No file is needed, and nothing is written.
+ * LN_LENGTH, LN_ROOM, LN_JOURNAL. */
+struct ln_answer ln_position(size_t k, const uint8_t *journal, size_t journal_len);
+
 /* Where a register's bytes stand, for drawing. `predicate` is 0 for a vector register; every other
  * number asks for a predicate register.
  * LN_LENGTH, LN_FILE; LN_RANGE: `number` over 31, or over 15 for a predicate register. */

@@ -1,5 +1,6 @@
 use ghishmadul::{
-    assemble, back, fresh, journal_bytes, predicate_file_bytes, step, vector_file_bytes, Refusal,
+    assemble, back, fresh, journal_bytes, position, predicate_file_bytes, step, vector_file_bytes,
+    Refusal,
 };
 
 fn main() -> Result<(), Refusal> {
@@ -28,6 +29,7 @@ fn main() -> Result<(), Refusal> {
     let third = step(k, &mut z, &p, &program, &mut journal);
     println!("a third step: {:?}", third);
     assert_eq!(third, Err(Refusal::End));
+    assert_eq!(position(k, &journal), Ok(2));
 
     // Back: Z1 is what it was.
     back(k, &mut z, &p, &mut journal)?;
@@ -37,5 +39,6 @@ fn main() -> Result<(), Refusal> {
     let third = back(k, &mut z, &p, &mut journal);
     println!("a third step back: {:?}", third);
     assert_eq!(third, Err(Refusal::Empty));
+    assert_eq!(position(k, &journal), Ok(0));
     Ok(())
 }

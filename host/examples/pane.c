@@ -3,8 +3,8 @@
 
 #include <stdio.h>
 
-#if LN_VERSION < 1
-#error "this example needs the calls of version 1"
+#if LN_VERSION < 2
+#error "this example needs the calls of version 2"
 #endif
 
 #define K 2
@@ -32,6 +32,14 @@ static void show_z0(void)
         printf(" %02x", z[place.start + byte]);
     }
     printf("\n");
+}
+
+/* The number of the word that the next step executes. */
+static void show_position(void)
+{
+    struct ln_answer position = ln_position(K, journal, sizeof journal);
+
+    printf("position: %d\n", (int)position.value);
 }
 
 int main(void)
@@ -62,13 +70,16 @@ int main(void)
     }
 
     told("fresh", ln_fresh(K, journal, sizeof journal));
+    show_position();
     show_z0();
     told("step", ln_step(K, z, sizeof z, p, sizeof p, program, sizeof program, journal, sizeof journal));
+    show_position();
     show_z0();
     answer = ln_write_line(line, sizeof line, K, z, sizeof z, p, sizeof p, program, sizeof program, 0, LN_DONE);
     fwrite(line, 1, (size_t)answer.value, stdout);
     told("step", ln_step(K, z, sizeof z, p, sizeof p, program, sizeof program, journal, sizeof journal));
     told("back", ln_back(K, z, sizeof z, p, sizeof p, journal, sizeof journal));
+    show_position();
     show_z0();
 
     /* The rows that addqv adds, and the sum beneath the lanes. */

@@ -1,4 +1,4 @@
-//! The journal: fresh, step and back.
+//! The journal: fresh, step, back and the position.
 
 use crate::{checks, decode, execute::execute};
 use ghishmadul::Refusal;
@@ -71,4 +71,10 @@ pub fn back(k: usize, z: &mut [u8], p: &[u8], journal: &mut [u8]) -> Result<(), 
     entry.fill(0);
     head.copy_from_slice(&header(k, last));
     Ok(())
+}
+
+pub fn position(k: usize, journal: &[u8]) -> Result<usize, Refusal> {
+    checks::length(k)?;
+    checks::room(journal)?;
+    count(k, journal)
 }

@@ -10,7 +10,7 @@ mod pane;
 mod session;
 mod words;
 
-pub use journal::{back, fresh, step};
+pub use journal::{back, fresh, position, step};
 pub use names::{assemble, text};
 pub use pane::{panel, read_word, register_place, subtotal};
 pub use session::{line, read_session, walk, write_line};

@@ -117,6 +117,9 @@ extern "C" {
         journal_len: usize,
     ) -> u64;
 
+    /// The journal's position.
+    pub fn ln_position(k: usize, journal: *const u8, journal_len: usize) -> Answer;
+
     /// Where a register's bytes stand; a `predicate` that is not 0 asks for a predicate register.
     pub fn ln_register_place(
         k: usize,

@@ -258,6 +258,17 @@ pub fn back(k: usize, z: &mut [u8], p: &[u8], journal: &mut [u8]) -> Result<(), 
     })
 }
 
+/// The journal's position: how many steps were made and not taken back, and so the number of the word
+/// that the next step executes.
+///
+/// Refused: [`Refusal::Length`], [`Refusal::Room`], [`Refusal::Journal`]. The example is [`step`]'s.
+#[inline]
+pub fn position(k: usize, journal: &[u8]) -> Result<usize, Refusal> {
+    let answer = unsafe { boundary::ln_position(k, journal.as_ptr(), journal.len()) };
+    Refusal::check(answer.number)?;
+    Ok(answer.value as usize)
+}
+
 /// Where a register's bytes stand.
 ///
 /// Refused: [`Refusal::Length`], [`Refusal::File`], [`Refusal::Range`] where `number` is over 31, or

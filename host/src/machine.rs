@@ -1,9 +1,9 @@
 //! An owner of files, program and journal.
 
 use crate::{
-    back, fresh, predicate_file_bytes, read_session, read_word, register, register_place, rows,
-    step, subtotal, text_of, vector_bytes, vector_file_bytes, write_line, Kind, Lanes, Refusal,
-    JOURNAL_HEADER_BYTES, LONGEST_LINE, MOST_JOURNAL_BYTES,
+    back, fresh, position, predicate_file_bytes, read_session, read_word, register, register_place,
+    rows, step, subtotal, text_of, vector_bytes, vector_file_bytes, write_line, Kind, Lanes,
+    Refusal, JOURNAL_HEADER_BYTES, LONGEST_LINE, MOST_JOURNAL_BYTES,
 };
 use std::ops::Range;
 
@@ -99,7 +99,7 @@ impl Machine {
 
     /// How many steps were made and not taken back: the number of the word that the next one executes.
     pub fn position(&self) -> usize {
-        usize::from(u16::from_le_bytes([self.journal[6], self.journal[7]]))
+        position(self.k, &self.journal).expect("a machine's journal is well formed")
     }
 
     /// How many steps the journal has room for; programs end after 256.

@@ -100,6 +100,11 @@ pub unsafe extern "C" fn ln_back(
 }
 
 #[no_mangle]
+pub unsafe extern "C" fn ln_position(k: usize, journal: *const u8, journal_len: usize) -> Answer {
+    answer(slips::position(k, lent(journal, journal_len)).map(|position| position as u64))
+}
+
+#[no_mangle]
 pub unsafe extern "C" fn ln_register_place(
     k: usize,
     z: *const u8,

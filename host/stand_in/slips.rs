@@ -65,10 +65,23 @@ pub fn back(k: usize, z: &mut [u8], p: &[u8], journal: &mut [u8]) -> Result<(), 
     reference::back(k, z, p, journal)
 }
 
+/// The number in the two bytes of a journal's count.
+fn count(journal: &[u8]) -> Option<usize> {
+    Some(u16::from_le_bytes([*journal.get(6)?, *journal.get(7)?]) as usize)
+}
+
+pub fn position(k: usize, journal: &[u8]) -> Result<usize, Refusal> {
+    match reference::position(k, journal) {
+        Err(Refusal::Journal) if slips("the position of any journal told") => {
+            count(journal).ok_or(Refusal::Journal)
+        }
+        answer => answer,
+    }
+}
+
 /// The fields of the word at the position.
 fn next(program: &[u8], journal: &[u8]) -> Option<Fields> {
-    let count = u16::from_le_bytes([*journal.get(6)?, *journal.get(7)?]);
-    let word = reference::read_word(program, count as usize).ok()?.word;
+    let word = reference::read_word(program, count(journal)?).ok()?.word;
     reference::decode(word).ok()
 }
 

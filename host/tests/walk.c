@@ -38,7 +38,7 @@ int main(void)
 {
     struct ln_session parts;
     uint8_t *z, *p, *program;
-    size_t z_bytes, p_bytes, program_bytes, position;
+    size_t z_bytes, p_bytes, program_bytes;
 
     make_session();
     parts = ln_read_session(session, sizeof session);
@@ -54,7 +54,8 @@ int main(void)
     program_bytes = LN_WORD_BYTES * parts.count;
     ln_fresh(parts.k, journal, sizeof journal);
 
-    for (position = 0;; position++) {
+    for (;;) {
+        size_t position = (size_t)ln_position(parts.k, journal, sizeof journal).value;
         struct ln_word next = ln_read_word(program, program_bytes, position);
         uint64_t number = ln_step(parts.k, z, z_bytes, p, p_bytes, program, program_bytes, journal, sizeof journal);
         if (number == LN_END) {

@@ -1,5 +1,5 @@
 -- A step's tests and a step back's, in their order: what an accepted one tells of the lent buffers and leaves there, and that a refused one
--- leaves all as it stood.
+-- leaves all as it stood; and what an accepted call for a position tells.
 -- Assumes nothing.
 use Prim.Native.Nat.{ℕ, _*_, _%_, _-_, _≤_, _<_}
 use mathlib.Core.Path.{_≡_, refl, sym, _∙_, ap}
@@ -10,8 +10,8 @@ use lib.Dec.{eqb}
 use lib.ListN.{length}
 use borrow.Author.Tests.{leb-true, leb-false, eqb-false, ne-eqb, eq-eqb, not-false}
 use Rattle.parts.proofs.Same.{both-right}
-use Rattle.machine.specs.Size.{isProgram, wordBytes, mostWords}
-use Rattle.machine.specs.Refusal.{Test, UNKNOWN, UNDEFINED, filesTests, programTests, refused, first}
+use Rattle.machine.specs.Size.{isLegal, isProgram, wordBytes, mostWords}
+use Rattle.machine.specs.Refusal.{Test, UNKNOWN, UNDEFINED, lengthTests, filesTests, programTests, refused, first}
 use Rattle.machine.proofs.Tests.{first-none, refused-early, refused-later, none-refused, kept, left}
 use Rattle.machine.proofs.Checks.{files-checked, legal-most}
 use Rattle.registers.specs.declared.Kind.the-variants.{Vector}
@@ -26,10 +26,10 @@ use Rattle.words.proofs.Encoding.{decoded-in-range}
 use Rattle.executes.specs.Execute.{executed}
 use Rattle.executes.specs.Needs.{Executable}
 use Rattle.journal.specs.Layout.{capacity, heldOf, positionOf, lastEntry, pushed, popped}
-use Rattle.journal.specs.Calls.{journalTests, fullTests, emptyTests, startTests, wordNow, fieldsNow, startRefused, stepRefused, stepState, stepJournal, entryFor, restored, backRefused, backState, backJournal, Stepped, Backed, Performed}
+use Rattle.journal.specs.Calls.{journalTests, fullTests, emptyTests, startTests, wordNow, fieldsNow, startRefused, stepRefused, stepState, stepJournal, entryFor, restored, backRefused, backState, backJournal, positionRefused, Stepped, Backed, Performed}
 use Rattle.journal.specs.Needs.{Append, TakeBack, TakenBack, Ready}
 use Rattle.journal.proofs.Places.{slot-inside, named-all}
-use Rattle.journal.proofs.Formed.{Formed, journal-checked, formed-room, formed-journal}
+use Rattle.journal.proofs.Formed.{Formed, length-legal, journal-checked, formed-room, formed-journal}
 
 -- the tests of a step once its word is read
 abbrev lateTests : ℕ → Decoded → List ℕ → List Test
@@ -209,3 +209,19 @@ unfolding backRefused
 back-accepts k s journal f g some =
     let no : eqb (heldOf journal) 0 ≡ false = ne-eqb (heldOf journal) 0 (λ (e : heldOf journal ≡ 0). omega arith) in
     rw (f .legal, eq-eqb _ _ (f .vectorSize), eq-eqb _ _ (f .predicateSize), formed-room k journal g, formed-journal k journal g, no)
+
+-- what is known where a position is answered
+pub record AcceptedPosition (k : ℕ) (journal : List ℕ) : Type 0 where
+  pub legal : isLegal k ≡ true
+  pub formed : Formed k journal
+
+pub position-accepted : (k : ℕ) (journal : List ℕ) → positionRefused k journal ≡ 0 → AcceptedPosition k journal
+unfolding positionRefused
+position-accepted k journal e =
+    let none = none-refused (lengthTests k) tt (refused (journalTests k journal)) e in
+    record { legal = length-legal k _ refl (none .0); formed = journal-checked k _ journal refl (none .1) }
+
+-- and a legal length with a well-formed journal is all that it asks
+pub position-accepts : (k : ℕ) (journal : List ℕ) → isLegal k ≡ true → Formed k journal → positionRefused k journal ≡ 0
+unfolding positionRefused
+position-accepts k journal legal g = rw (legal, formed-room k journal g, formed-journal k journal g)

@@ -7,9 +7,10 @@ use mathlib.Core.Bool.{true}
 use mathlib.Core.Logic.{_↔_}
 use mathlib.Core.List.{List}
 use Rattle.machine.specs.Refusal.{First, inOrder}
+use Rattle.machine.specs.declared.Answer.{Answer}
 use Rattle.machine.proofs.Tests.{first-exactly, one-result}
 use Rattle.registers.specs.State.{State}
-use Rattle.journal.specs.Calls.{freshTests, stepTests, backTests, freshRefused, freshAfter, stepRefused, stepState, stepJournal, backRefused, backState, backJournal, Freshened, Leaves, Stepped, Backed}
+use Rattle.journal.specs.Calls.{freshTests, stepTests, backTests, positionTests, freshRefused, freshAfter, stepRefused, stepState, stepJournal, backRefused, backState, backJournal, positionRefused, positionAnswer, Freshened, Leaves, Stepped, Backed}
 
 pub fresh-in-order : (k : ℕ) (journal : List ℕ) → inOrder (freshTests k journal) ≡ true
 fresh-in-order k journal = refl
@@ -19,6 +20,9 @@ step-in-order k s program journal = refl
 
 pub back-in-order : (k : ℕ) (s : State) (journal : List ℕ) → inOrder (backTests k s journal) ≡ true
 back-in-order k s journal = refl
+
+pub position-in-order : (k : ℕ) (journal : List ℕ) → inOrder (positionTests k journal) ≡ true
+position-in-order k journal = refl
 
 pub fresh-exactly : (k n : ℕ) (journal : List ℕ) → freshRefused k journal ≡ suc n ↔ First (freshTests k journal) (suc n)
 fresh-exactly k n journal = first-exactly (freshTests k journal) n
@@ -30,6 +34,10 @@ step-exactly k n s program journal = first-exactly (stepTests k s program journa
 pub back-exactly : (k n : ℕ) (s : State) (journal : List ℕ) → backRefused k s journal ≡ suc n ↔ First (backTests k s journal) (suc n)
 unfolding backRefused
 back-exactly k n s journal = first-exactly (backTests k s journal) n
+
+pub position-exactly : (k n : ℕ) (journal : List ℕ) → positionRefused k journal ≡ suc n ↔ First (positionTests k journal) (suc n)
+unfolding positionRefused
+position-exactly k n journal = first-exactly (positionTests k journal) n
 
 -- two results of a call are the same; the contracts of `step` and `back` are both a `Leaves`
 pub fresh-determined : (k : ℕ) (journal : List ℕ) (r q : ℕ) (a b : List ℕ) → Freshened k journal r a → Freshened k journal q b → (r ≡ q) × (a ≡ b)
@@ -50,3 +58,6 @@ step-determined k s program journal = leaves-determined (stepRefused k s program
 pub back-determined : (k : ℕ) (s : State) (journal : List ℕ) (r q : ℕ) (a b : State) (i j : List ℕ) → Backed k s journal r a i → Backed k s journal q b j
     → (r ≡ q) × (a ≡ b) × (i ≡ j)
 back-determined k s journal = leaves-determined (backRefused k s journal) (backState k s journal) (backJournal k s journal)
+
+pub position-determined : (k : ℕ) (journal : List ℕ) (r q : Answer) → r ≡ positionAnswer k journal → q ≡ positionAnswer k journal → r ≡ q
+position-determined k journal = one-result (positionAnswer k journal)

@@ -61,7 +61,8 @@ named-more [] e p h = rw (le-leb _ _ h)
 named-more (x ∷ es) e p h =
     rw (both-left (leb (x .number) greatestNumber) (areNamed es) p) (named-more es e (both-right (leb (x .number) greatestNumber) (areNamed es) p) h)
 
-named-both : (es : List Entry) (e : Entry) → areNamed (es ++ e ∷ []) ≡ true → (areNamed es ≡ true) × (e .number ≤ greatestNumber)
+-- and one entry less: those before the last, and the last
+pub named-both : (es : List Entry) (e : Entry) → areNamed (es ++ e ∷ []) ≡ true → (areNamed es ≡ true) × (e .number ≤ greatestNumber)
 named-both [] e p = (refl, leb-true _ _ (both-left _ true p))
 named-both (x ∷ es) e p =
     let more = named-both es e (both-right (leb (x .number) greatestNumber) _ p) in

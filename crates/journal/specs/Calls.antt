@@ -1,11 +1,12 @@
--- What fresh, step and back answer, and what they leave in every lent buffer, for every input.
+-- What fresh, step and back answer, and what they leave in every lent buffer, for every input; and what the call for a position answers.
 use Prim.Native.Nat.{ℕ}
 use mathlib.Core.Path.{_≡_}
 use mathlib.Core.Bool.{not}
 use mathlib.Core.List.{List, [], _∷_, _++_}
 use lib.Dec.{eqb, leb}
 use lib.ListN.{length}
-use Rattle.machine.specs.Refusal.{Test, test, ROOM, JOURNAL, FULL, EMPTY, refused, lengthTests, filesTests, programTests, unlessRefused}
+use Rattle.machine.specs.Refusal.{Test, test, ROOM, JOURNAL, FULL, EMPTY, refused, lengthTests, filesTests, programTests, unlessRefused, answer}
+use Rattle.machine.specs.declared.Answer.{Answer}
 use Rattle.registers.specs.declared.Kind.the-variants.{Vector}
 use Rattle.registers.specs.State.{State, read, write}
 use Rattle.programs.specs.Word.{wordAt, endTests}
@@ -56,6 +57,10 @@ stepTests k s program journal = startTests k s program journal ++ wordTests (dec
 abbrev pub backTests : ℕ → State → List ℕ → List Test
 backTests k s journal = filesTests k (length (s .z)) (length (s .p)) ++ journalTests k journal ++ emptyTests journal
 
+-- the tests of a position: no file is lent
+abbrev pub positionTests : ℕ → List ℕ → List Test
+positionTests k journal = lengthTests k ++ journalTests k journal
+
 -- the refusals of the calls, and of a step before its word is read
 abbrev pub freshRefused : ℕ → List ℕ → ℕ
 freshRefused k journal = refused (freshTests k journal)
@@ -68,6 +73,13 @@ stepRefused k s program journal = refused (stepTests k s program journal)
 
 unfoldable pub backRefused : ℕ → State → List ℕ → ℕ
 backRefused k s journal = refused (backTests k s journal)
+
+unfoldable pub positionRefused : ℕ → List ℕ → ℕ
+positionRefused k journal = refused (positionTests k journal)
+
+-- a journal's position, or its refusal with 0
+abbrev pub positionAnswer : ℕ → List ℕ → Answer
+positionAnswer k journal = answer (positionRefused k journal) (positionOf journal)
 
 -- the entry of a word: its destination's number, and its bytes as they stand
 abbrev pub entryFor : ℕ → Fields → State → Entry

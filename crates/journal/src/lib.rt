@@ -1,8 +1,9 @@
-// The step-back journal: a fresh one, a step that appends an entry, and back, which takes the last entry off again.
+// The step-back journal: a fresh one, a step that appends an entry, back, which takes the last entry off again, and its position.
 ghost use mathlib.Core.Path.{_≡_};
 ghost use Rattle.registers.specs.State.{state};
-ghost use Rattle.journal.specs.Calls.{startRefused, backRefused, Freshened, Stepped, Backed, Performed, CarriedOut};
+ghost use Rattle.journal.specs.Calls.{startRefused, backRefused, positionRefused, positionAnswer, Freshened, Stepped, Backed, Performed, CarriedOut};
 ghost use Rattle.journal.specs.Needs.{Ready, CarryOut};
+use machine::Answer;
 use machine::Length;
 use machine::refusal;
 use words::Decoded;
@@ -115,5 +116,30 @@ pub fn step(k: usize, z: &mut [u8], p: &[u8], program: &[u8], journal: &mut [u8]
         Decoded::Unknown => refusal::UNKNOWN,
         Decoded::Undefined => refusal::UNDEFINED,
         Decoded::Word(f) => perform(k, z, p, journal, f),
+    }
+}
+
+// The refusal of a position: LENGTH, ROOM, JOURNAL or DONE.
+fn check_position(k: usize, journal: &[u8]) -> u8
+    ensures { λ r. ⌜ r ≡ positionRefused k (now (journal .entry)) ⌝ }
+{
+    let length = machine::check_length(k);
+    if length != refusal::DONE {
+        return length;
+    }
+    layout::check_journal(k, journal)
+}
+
+// A journal's position; 0 where it is refused.
+pub fn position(k: usize, journal: &[u8]) -> Answer
+    ensures { λ r. ⌜ r ≡ positionAnswer k (now (journal .entry)) ⌝ }
+{
+    let number = check_position(k, journal);
+    if number != refusal::DONE {
+        return Answer { number, value: 0 };
+    }
+    Answer {
+        number,
+        value: layout::position_of(journal) as u64,
     }
 }

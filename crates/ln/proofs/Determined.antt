@@ -11,7 +11,7 @@ use Rattle.names.proofs.Naming.{text-determined}
 use Rattle.assembles.specs.Assembled.{Assembled}
 use Rattle.assembles.proofs.Theorems.{assemble-determined}
 use Rattle.programs.specs.Word.{nextWord}
-use Rattle.journal.specs.Calls.{Freshened, Stepped, Backed}
+use Rattle.journal.specs.Calls.{positionAnswer, Freshened, Stepped, Backed}
 use Rattle.journal.proofs.Answers.{fresh-determined, step-determined, back-determined}
 use Rattle.session.specs.Layout.{sessionOf}
 use Rattle.lines.specs.Line.{LineWritten, stepLine}
@@ -23,7 +23,7 @@ use Rattle.ln.specs.declared.LnSession.{LnSession}
 use Rattle.ln.specs.declared.LnWord.{LnWord}
 use Rattle.ln.specs.Outside.{answerOut, answerIn, decodedOut, sessionOut, wordOut}
 use Rattle.ln.specs.Panel.{PanelWritten}
-use Rattle.ln.specs.Posts.{WordDecoded, WordRead, SessionRead, RegisterPlaced, Subtotalled}
+use Rattle.ln.specs.Posts.{WordDecoded, WordRead, SessionRead, RegisterPlaced, Subtotalled, PositionTold}
 use Rattle.ln.proofs.Panels.{panel-written-determined}
 
 pub ln-decode-determined : (word : ℕ) (r q : LnFields) → WordDecoded word r → WordDecoded word q → r ≡ q
@@ -44,6 +44,9 @@ ln-read-session-determined bytes = one-result (sessionOut (sessionOf bytes))
 
 pub ln-fresh-determined : (k : ℕ) (journal : List ℕ) (r q : ℕ) (a b : List ℕ) → Freshened k journal r a → Freshened k journal q b → (r ≡ q) × (a ≡ b)
 ln-fresh-determined = fresh-determined
+
+pub ln-position-determined : (k : ℕ) (journal : List ℕ) (r q : LnAnswer) → PositionTold k journal r → PositionTold k journal q → r ≡ q
+ln-position-determined k journal = one-result (answerOut (positionAnswer k journal))
 
 -- calls on both files
 module _ (k : ℕ) (s : State) where

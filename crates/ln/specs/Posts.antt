@@ -5,6 +5,7 @@ use mathlib.Core.List.{List}
 use Rattle.words.specs.Decode.{decoded}
 use Rattle.programs.specs.Word.{nextWord}
 use Rattle.sums.specs.Calls.{subtotalAnswer}
+use Rattle.journal.specs.Calls.{positionAnswer}
 use Rattle.session.specs.Layout.{sessionOf}
 use Rattle.ln.specs.declared.LnAnswer.{LnAnswer}
 use Rattle.ln.specs.declared.LnFields.{LnFields}
@@ -32,3 +33,7 @@ RegisterPlaced k z p predicate number r = r ≡ placeFor k z p (kindOf (isSet pr
 -- the sum of the active lanes from a up to but without b, signed where the flag says so
 abbrev pub Subtotalled : ℕ → List ℕ → List ℕ → ℕ → ℕ → ℕ → ℕ → ℕ → ℕ → LnAnswer → Type 0
 Subtotalled k z p source governing size signed a b r = r ≡ answerOut (subtotalAnswer k z p source governing size (isSet signed) a b)
+
+-- a journal's position
+abbrev pub PositionTold : ℕ → List ℕ → LnAnswer → Type 0
+PositionTold k journal r = r ≡ answerOut (positionAnswer k journal)

@@ -17,7 +17,7 @@ ghost use Rattle.sums.specs.Calls.{subtotalAnswer};
 ghost use Rattle.journal.specs.Calls.{Freshened, Stepped, Backed};
 ghost use Rattle.session.specs.Layout.{sessionOf};
 ghost use Rattle.lines.specs.Line.{LineWritten};
-ghost use Rattle.ln.specs.Posts.{WordDecoded, WordRead, SessionRead, RegisterPlaced, Subtotalled};
+ghost use Rattle.ln.specs.Posts.{WordDecoded, WordRead, SessionRead, RegisterPlaced, Subtotalled, PositionTold};
 ghost use Rattle.ln.specs.Panel.{panelBytes, joined, PanelWritten};
 ghost use Rattle.ln.specs.Outside.{isSet, answerOut, answerIn, decodedOut, fieldsOut, flagOf, kindOf, placeFor, sessionOut, wordOut};
 
@@ -233,6 +233,18 @@ pub extern "C" fn ln_back(k: usize, z: &mut [u8], p: &[u8], journal: &mut [u8]) 
     ensures { λ r. ⌜ Backed k (state (now (z .entry)) (now (p .entry))) (now (journal .entry)) r (state (now (z .exit)) (now (p .entry))) (now (journal .exit)) ⌝ }
 {
     journal::back(k, z, p, journal) as u64
+}
+
+// A journal's position, or LENGTH, ROOM or JOURNAL.
+#[no_mangle]
+pub extern "C" fn ln_position(k: usize, journal: &[u8]) -> LnAnswer
+    ensures { λ r. ⌜ PositionTold k (now (journal .entry)) r ⌝ }
+{
+    let answer = journal::position(k, journal);
+    LnAnswer {
+        number: answer.number as u64,
+        value: answer.value,
+    }
 }
 
 // Where a register stands, or LENGTH, FILE or RANGE; a flag that is not 0 names a predicate register.

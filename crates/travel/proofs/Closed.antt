@@ -3,6 +3,7 @@
 -- Assumes nothing.
 use Prim.Native.Nat.{ℕ, zero, suc, _+_, _*_, _-_, _≤_, _<_}
 use mathlib.Core.Path.{_≡_, refl, sym, _∙_, ap, ap₂}
+use mathlib.Core.Bool.{true}
 use mathlib.Core.List.{List, [], _∷_, _++_, append-assoc, append-nil}
 use native.Mathlib.Nat.{zero-mul, suc-mul}
 use native.Mathlib.Numerals.{add-one}
@@ -13,8 +14,9 @@ use Rattle.parts.specs.Part.{part}
 use Rattle.parts.specs.Number.{bytesOf, number}
 use Rattle.parts.proofs.Numbers.{drop-replicate}
 use Rattle.machine.specs.Size.{vectorBytes, mostWords}
-use Rattle.journal.specs.Layout.{version, heading, countAt, countBytes, headerBytes, entryBytes, slotAt, capacity, heldOf, Entry, encodedEntry, encodedEntries, lastEntry, journalOf, withCount, withEntry, pushed, popped}
-use Rattle.journal.proofs.Places.{slot-next, slot-inside, count-read}
+use Rattle.journal.specs.Layout.{version, heading, countAt, countBytes, headerBytes, isRoom, entryBytes, slotAt, capacity, heldOf, Entry, firstEntries, areNamed, encodedEntry, encodedEntries, lastEntry, journalOf, withCount, withEntry, pushed, popped}
+use Rattle.journal.proofs.Places.{room-least, room-most, slot-next, slot-inside, count-read}
+use Rattle.journal.proofs.Formed.{Formed}
 use Rattle.journal.proofs.Written.{Room, last-pushed, popped-pushed}
 
 -- every entry has the bytes of a register
@@ -53,7 +55,10 @@ module _ (k n : ℕ) (es : List Entry) (sized : EntriesSized k es) where
       ∙ length-append (front k (length es) (encodedEntries es)) (replicate (n - slotAt k (length es)) 0)
       ∙ omega (arith, front-length, length-replicate {A = ℕ} (n - slotAt k (length es)) 0)
 
-  -- its count
+  -- its heading, and its count
+  pub heading-closed : take countAt (journalOf k n es) ≡ heading version k
+  heading-closed = ap (take countAt) closed-is
+
   count-closed : part countAt countBytes (journalOf k n es) ≡ bytesOf countBytes (length es)
   count-closed = ap (part countAt countBytes) closed-is
 
@@ -65,6 +70,21 @@ module _ (k n : ℕ) (es : List Entry) (sized : EntriesSized k es) where
   zeros-closed =
       ap (drop (slotAt k (length es))) closed-is
       ∙ drop-at (front k (length es) (encodedEntries es)) (replicate (n - slotAt k (length es)) 0) (slotAt k (length es)) front-length
+
+-- with no entries it is well formed
+pub formed-none : (k n : ℕ) → isRoom n ≡ true → Formed k (journalOf k n [])
+formed-none k n room =
+    let held = held-closed k n [] tt (omega arith) in
+    let least = room-least n room in
+    let size = length-closed k n [] tt (omega (arith, zero-mul (entryBytes k))) in
+    record {
+      least = omega (arith, size);
+      most = omega (arith, size, room-most n room);
+      agrees = heading-closed k n [] tt;
+      few = omega (arith, held);
+      fits = rw held (omega arith);
+      named = ap (λ (m : ℕ). areNamed (firstEntries k (journalOf k n []) m)) held;
+    }
 
 take-replicate : (m n : ℕ) → m ≤ n → take m (replicate {A = ℕ} n 0) ≡ replicate m 0
 take-replicate zero n h = refl
@@ -116,7 +136,7 @@ module _ (k n : ℕ) (es : List Entry) (e : Entry) (r : RoomAfter k n es e) wher
       left = rw (add-one (length es)) (omega (arith, slot-next k (length es)))
 
   -- what the laws of one entry more ask for
-  has-room : Room k e journal
+  pub has-room : Room k e journal
   has-room = record { least = rw size (r .least); room = rw (held, size) (r .room); few = rw held (r .few); whole = r .whole }
 
   pub last-closed : lastEntry k (journalOf k n (es ++ e ∷ [])) ≡ e

@@ -4,3 +4,4 @@ pub mod Frame
 pub mod Walked
 pub mod Demand3
 pub mod Directed
+pub mod Positions

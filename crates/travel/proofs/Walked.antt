@@ -20,7 +20,9 @@ use Rattle.journal.specs.Layout.{isRoom, capacity, heldOf, Entry, journalOf, pu
 use Rattle.journal.specs.Calls.{entryFor, restored, stepRefused, stepState, stepJournal, backRefused, backState, backJournal}
 use Rattle.journal.proofs.Places.{slots-inside, room-least}
 use Rattle.journal.proofs.Accepted.{executable, step-accepted, back-accepted}
-use Rattle.travel.proofs.Closed.{EntriesSized, RoomAfter, sized-more, length-closed, held-closed, pushed-closed, last-closed, popped-closed}
+use Rattle.journal.proofs.Formed.{Formed}
+use Rattle.journal.proofs.Written.{formed-pushed}
+use Rattle.travel.proofs.Closed.{EntriesSized, RoomAfter, sized-more, length-closed, held-closed, formed-none, has-room, pushed-closed, last-closed, popped-closed}
 use Rattle.travel.proofs.Undone.{old-whole, executed-sized, restored-executed}
 use Rattle.travel.specs.Walk.{fieldsIn, walkedState, walkedEntries, Walkable}
 use Rattle.travel.specs.Travel.{AsWalked}
@@ -79,7 +81,7 @@ module _ (k bytes : ℕ) (program : List ℕ) (s : State) (sized : Sized k s) (r
       executable k (wordAt program n) (fieldsIn program n) (after n) (walked n (walkable-less k bytes n program w) .files) (w .accepted n (omega arith))
 
   -- the journal holds as many entries, in as many bytes
-  held : (n : ℕ) → Walkable k bytes n program → heldOf (journal n) ≡ n
+  pub held : (n : ℕ) → Walkable k bytes n program → heldOf (journal n) ≡ n
   held n w = let h = walked n w in held-closed k bytes (entries n) (h .whole) (omega (arith, h .count, w .few)) ∙ h .count
 
   size : (n : ℕ) → Walkable k bytes n program → length (journal n) ≡ bytes
@@ -98,6 +100,14 @@ module _ (k bytes : ℕ) (program : List ℕ) (s : State) (sized : Sized k s) (r
         room = rw (h .count) (w .fits);
         few = rw (h .count) (w .few);
       }
+
+  -- and the journal is well formed
+  pub formed-walked : (n : ℕ) → Walkable k bytes n program → Formed k (journal n)
+  unfolding walkedEntries
+  formed-walked zero w = formed-none k bytes room
+  formed-walked (suc n) w =
+      rw (← pushed-closed k bytes (entries n) (entry n) (fits n w))
+      (formed-pushed k (entry n) (journal n) (has-room k bytes (entries n) (entry n) (fits n w)) (formed-walked n (walkable-less k bytes n program w)) (omega (arith, executes n w .fields .d)))
 
   -- an accepted step walks one word more
   step-walkable : (n : ℕ) → Walkable k bytes n program → stepRefused k (after n) program (journal n) ≡ 0 → Walkable k bytes (suc n) program

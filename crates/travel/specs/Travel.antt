@@ -4,10 +4,10 @@ use mathlib.Core.Path.{_≡_}
 use mathlib.Core.Bool.{true}
 use mathlib.Core.List.{List, [], _∷_}
 use lib.ListN.{length}
-use Rattle.machine.specs.Refusal.{unlessRefused}
+use Rattle.machine.specs.Refusal.{DONE, unlessRefused}
 use Rattle.registers.specs.State.{State, Sized}
 use Rattle.journal.specs.Layout.{isRoom, journalOf, freshJournal}
-use Rattle.journal.specs.Calls.{stepRefused, stepState, stepJournal, backRefused, backState, backJournal, Leaves}
+use Rattle.journal.specs.Calls.{stepRefused, stepState, stepJournal, backRefused, backState, backJournal, positionAnswer, Leaves}
 use Rattle.travel.specs.declared.Travelled.{Travelled}
 use Rattle.travel.specs.Walk.{walkedState, walkedEntries, Walkable}
 
@@ -89,3 +89,13 @@ pub record Ahead (k : ℕ) (s : State) (program : List ℕ) (bytes : ℕ) (t : T
 pub record Made (k : ℕ) (s : State) (program journal directions : List ℕ) (after : State) (journal-after : List ℕ) (made : Travelled) : Type 0 where
   pub all : tripOf after journal-after made ≡ travelled k program directions (starting s journal)
   pub walked : FreshStart k s journal → Ahead k s program (length journal) (tripOf after journal-after made)
+
+-- the call for a journal's position answers n
+abbrev pub PositionIs : ℕ → List ℕ → ℕ → Type 0
+PositionIs k journal n = positionAnswer k journal ≡ record { number = DONE; value = n }
+
+-- of two journals the later one's position is one more
+pub record OneOn (k : ℕ) (journal later : List ℕ) : Type 0 where
+  pub position : ℕ
+  pub before : PositionIs k journal position
+  pub after : PositionIs k later (position + 1)

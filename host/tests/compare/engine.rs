@@ -177,6 +177,13 @@ impl Way {
         })
     }
 
+    pub fn position(self, k: usize, journal: &[u8]) -> Numbers {
+        if self == Way::Safe {
+            return numbers(ghishmadul::position(k, journal));
+        }
+        answer(unsafe { ln_position(k, self.of(journal), journal.len()) })
+    }
+
     /// `predicate`: every number but 0 asks for a predicate register.
     pub fn register_place(
         self,

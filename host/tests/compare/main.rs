@@ -241,6 +241,23 @@ impl<'a> Comparison<'a> {
         reference[0]
     }
 
+    fn tell_position(&mut self, way: Way, k: usize) -> Numbers {
+        let engine = way.position(k, self.engine.journal.part());
+        let reference = numbers(reference::position(k, &self.parts.journal));
+        self.same(Call::Position, engine, reference, &[k]);
+        self.agree(Call::Position, &["journal"]);
+        reference
+    }
+
+    fn position(&mut self) {
+        let way = self.way();
+        let k = inputs::length(&mut self.random);
+        let words = self.random.below(257);
+        inputs::journal(&mut self.random, k, words, &mut self.parts.journal);
+        self.engine.journal.set(&self.parts.journal);
+        self.tell_position(way, k);
+    }
+
     fn step(&mut self) {
         let way = self.way();
         let k = self.state();
@@ -253,7 +270,8 @@ impl<'a> Comparison<'a> {
         self.move_back(way, k);
     }
 
-    /// Moves forward and back from a fresh journal; a back brings the former bytes again.
+    /// Moves forward and back from a fresh journal; a back brings the former bytes again, and at the end
+    /// the position is the number of steps that were not taken back.
     fn moves(&mut self) {
         let k = 1 + self.random.below(16);
         let entry = 1 + 16 * k;
@@ -306,6 +324,10 @@ impl<'a> Comparison<'a> {
                     former.push(before);
                 }
             }
+        }
+        let way = self.way();
+        if self.tell_position(way, k) != numbers(Ok(former.len())) {
+            self.stop(Call::Position, "not the steps that were not taken back");
         }
     }
 
@@ -455,7 +477,8 @@ impl<'a> Comparison<'a> {
             match self.random.below(100) {
                 0..=15 => self.decode(),
                 16..=29 => self.text(),
-                30..=53 => self.assemble(),
+                30..=51 => self.assemble(),
+                52..=53 => self.position(),
                 54..=55 => self.fresh(),
                 56..=66 => self.step(),
                 67..=72 => self.back(),

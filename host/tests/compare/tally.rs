@@ -11,6 +11,7 @@ pub enum Call {
     Fresh,
     Step,
     Back,
+    Position,
     RegisterPlace,
     Panel,
     Subtotal,
@@ -20,13 +21,14 @@ pub enum Call {
 }
 
 /// Each call's name, and the refusals that it can give.
-const CALLS: [(&str, &[usize]); 12] = [
+const CALLS: [(&str, &[usize]); 13] = [
     ("decode", &[7, 8]),
     ("text", &[7, 8, 11]),
     ("assemble", &[12]),
     ("fresh", &[1, 4]),
     ("step", &[1, 2, 3, 4, 5, 6, 7, 8, 9]),
     ("back", &[1, 2, 4, 5, 10]),
+    ("position", &[1, 4, 5]),
     ("register_place", &[1, 2, 13]),
     ("panel", &[1, 2, 11, 13]),
     ("subtotal", &[1, 2, 13]),
