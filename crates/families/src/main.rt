@@ -5,10 +5,7 @@ ghost use Prim.Native.Nat.{_≤_};
 ghost use Rattle.machine.specs.Size.{mostLength};
 
 // The bytes of a journal that holds one entry of the longest register.
-const ONE_ENTRY: usize = journal::layout::COUNT_AT
-    + journal::layout::COUNT
-    + 1
-    + Length::MOST_BYTES;
+const ONE_ENTRY: usize = entries::COUNT_AT + entries::COUNT + 1 + Length::MOST_BYTES;
 
 // Shows the step of a program's first word over filled vectors.
 fn show_filled(k: usize, z: &mut [u8], p: &mut [u8], program: &[u8]) {

@@ -25,11 +25,13 @@ use Rattle.words.specs.declared.Decoded.the-variants.{Unknown, Undefined, Word}
 use Rattle.words.proofs.Encoding.{decoded-in-range}
 use Rattle.executes.specs.Execute.{executed}
 use Rattle.executes.specs.Needs.{Executable}
-use Rattle.journal.specs.Layout.{capacity, heldOf, positionOf, lastEntry, pushed, popped}
-use Rattle.journal.specs.Calls.{journalTests, fullTests, emptyTests, startTests, wordNow, fieldsNow, startRefused, stepRefused, stepState, stepJournal, entryFor, restored, backRefused, backState, backJournal, positionRefused, Stepped, Backed, Performed}
-use Rattle.journal.specs.Needs.{Append, TakeBack, TakenBack, Ready}
-use Rattle.journal.proofs.Places.{slot-inside, named-all}
-use Rattle.journal.proofs.Formed.{Formed, length-legal, journal-checked, formed-room, formed-journal}
+use Rattle.entries.specs.Layout.{capacity, heldOf, positionOf, lastEntry, pushed, popped}
+use Rattle.entries.specs.Tests.{journalTests}
+use Rattle.journal.specs.Calls.{fullTests, emptyTests, startTests, wordNow, fieldsNow, startRefused, stepRefused, stepState, stepJournal, entryFor, restored, backRefused, backState, backJournal, positionRefused, Stepped, Backed, Performed}
+use Rattle.entries.specs.Needs.{Append, TakeBack, TakenBack}
+use Rattle.journal.specs.Needs.{Ready}
+use Rattle.entries.proofs.Places.{slot-inside, named-all}
+use Rattle.entries.proofs.Formed.{Formed, length-legal, journal-checked, formed-room, formed-journal}
 
 -- the tests of a step once its word is read
 abbrev lateTests : ℕ → Decoded → List ℕ → List Test

@@ -1,11 +1,10 @@
 -- What fresh, step and back answer, and what they leave in every lent buffer, for every input; and what the call for a position answers.
 use Prim.Native.Nat.{ℕ}
 use mathlib.Core.Path.{_≡_}
-use mathlib.Core.Bool.{not}
 use mathlib.Core.List.{List, [], _∷_, _++_}
 use lib.Dec.{eqb, leb}
 use lib.ListN.{length}
-use Rattle.machine.specs.Refusal.{Test, test, ROOM, JOURNAL, FULL, EMPTY, refused, lengthTests, filesTests, programTests, unlessRefused, answer}
+use Rattle.machine.specs.Refusal.{Test, test, FULL, EMPTY, refused, lengthTests, filesTests, programTests, unlessRefused, answer}
 use Rattle.machine.specs.declared.Answer.{Answer}
 use Rattle.registers.specs.declared.Kind.the-variants.{Vector}
 use Rattle.registers.specs.State.{State, read, write}
@@ -13,15 +12,8 @@ use Rattle.programs.specs.Word.{wordAt, endTests}
 use Rattle.words.specs.Decode.{decoded, fieldsOf, wordTests}
 use Rattle.words.specs.declared.Fields.{Fields}
 use Rattle.executes.specs.Execute.{executed}
-use Rattle.journal.specs.Layout.{isRoom, isJournal, capacity, heldOf, positionOf, Entry, lastEntry, freshJournal, pushed, popped}
-
--- the journal's size is outside its limits
-abbrev pub roomTests : ℕ → List Test
-roomTests n = test ROOM (not (isRoom n)) ∷ []
-
--- nor is it well formed
-abbrev pub journalTests : ℕ → List ℕ → List Test
-journalTests k journal = roomTests (length journal) ++ test JOURNAL (not (isJournal k journal)) ∷ []
+use Rattle.entries.specs.Tests.{roomTests, journalTests}
+use Rattle.entries.specs.Layout.{capacity, heldOf, positionOf, Entry, lastEntry, freshJournal, pushed, popped}
 
 -- no further entry fits
 abbrev pub fullTests : ℕ → List ℕ → List Test

@@ -9,7 +9,7 @@ use Rattle.machine.specs.Size.{vectorBytes}
 use Rattle.registers.specs.declared.Kind.the-variants.{Vector}
 use Rattle.registers.specs.Register.{registerAt}
 use Rattle.registers.specs.State.{State}
-use Rattle.journal.specs.Layout.{countAt, countBytes, entryBytes, entryAt, heldOf}
+use Rattle.entries.specs.Layout.{countAt, countBytes, entryBytes, entryAt, heldOf}
 use Rattle.journal.specs.Calls.{backRefused, backState, backJournal}
 
 -- buffers that differ in vector register d, in entry i and in the count only

@@ -1,4 +1,3 @@
-pub mod Layout
 pub mod Calls
 pub mod Needs
 pub mod Frame

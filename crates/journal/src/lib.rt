@@ -9,9 +9,6 @@ use machine::refusal;
 use words::Decoded;
 use words::Fields;
 
-pub mod entries;
-pub mod layout;
-
 // Writes a fresh journal; or LENGTH or ROOM, and the journal as it stood.
 pub fn fresh(k: usize, journal: &mut [u8]) -> u8
     ensures { λ r. ⌜ Freshened k (now (journal .entry)) r (now (journal .exit)) ⌝ }
@@ -20,11 +17,11 @@ pub fn fresh(k: usize, journal: &mut [u8]) -> u8
     if length != refusal::DONE {
         return length;
     }
-    let room = layout::check_room(journal);
+    let room = entries::check_room(journal);
     if room != refusal::DONE {
         return room;
     }
-    layout::put_fresh(k, journal);
+    entries::put_fresh(k, journal);
     refusal::DONE
 }
 
@@ -36,11 +33,11 @@ fn check_back(k: usize, z: &[u8], p: &[u8], journal: &[u8]) -> u8
     if files != refusal::DONE {
         return files;
     }
-    let form = layout::check_journal(k, journal);
+    let form = entries::check_journal(k, journal);
     if form != refusal::DONE {
         return form;
     }
-    if layout::held_of(journal) == 0 {
+    if entries::held_of(journal) == 0 {
         return refusal::EMPTY;
     }
     refusal::DONE
@@ -70,11 +67,11 @@ fn check_step(k: usize, z: &[u8], p: &[u8], program: &[u8], journal: &[u8]) -> u
     if words != refusal::DONE {
         return words;
     }
-    let form = layout::check_journal(k, journal);
+    let form = entries::check_journal(k, journal);
     if form != refusal::DONE {
         return form;
     }
-    if program.len() / Length::WORD_BYTES <= layout::position_of(journal) {
+    if program.len() / Length::WORD_BYTES <= entries::position_of(journal) {
         return refusal::END;
     }
     refusal::DONE
@@ -94,7 +91,7 @@ fn perform(k: usize, z: &mut [u8], p: &[u8], journal: &mut [u8], f: Fields) -> u
     requires { ⌜ Ready f k (state (now z) (now p)) (now journal) ⌝ }
     ensures { λ r. ⌜ Performed f k (state (now (z .entry)) (now (p .entry))) (now (journal .entry)) r (state (now (z .exit)) (now (p .entry))) (now (journal .exit)) ⌝ }
 {
-    if layout::capacity(k, journal.len()) <= layout::held_of(journal) {
+    if entries::capacity(k, journal.len()) <= entries::held_of(journal) {
         return refusal::FULL;
     }
     carry_out(k, z, p, journal, f);
@@ -111,7 +108,7 @@ pub fn step(k: usize, z: &mut [u8], p: &[u8], program: &[u8], journal: &mut [u8]
     if start != refusal::DONE {
         return start;
     }
-    let decoded = words::decode(programs::word_at(program, layout::position_of(journal)));
+    let decoded = words::decode(programs::word_at(program, entries::position_of(journal)));
     match decoded {
         Decoded::Unknown => refusal::UNKNOWN,
         Decoded::Undefined => refusal::UNDEFINED,
@@ -127,7 +124,7 @@ fn check_position(k: usize, journal: &[u8]) -> u8
     if length != refusal::DONE {
         return length;
     }
-    layout::check_journal(k, journal)
+    entries::check_journal(k, journal)
 }
 
 // A journal's position; 0 where it is refused.
@@ -140,6 +137,6 @@ pub fn position(k: usize, journal: &[u8]) -> Answer
     }
     Answer {
         number,
-        value: layout::position_of(journal) as u64,
+        value: entries::position_of(journal) as u64,
     }
 }

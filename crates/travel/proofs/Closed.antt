@@ -14,10 +14,10 @@ use Rattle.parts.specs.Part.{part}
 use Rattle.parts.specs.Number.{bytesOf, number}
 use Rattle.parts.proofs.Numbers.{drop-replicate}
 use Rattle.machine.specs.Size.{vectorBytes, mostWords}
-use Rattle.journal.specs.Layout.{version, heading, countAt, countBytes, headerBytes, isRoom, entryBytes, slotAt, capacity, heldOf, Entry, firstEntries, areNamed, encodedEntry, encodedEntries, lastEntry, journalOf, withCount, withEntry, pushed, popped}
-use Rattle.journal.proofs.Places.{room-least, room-most, slot-next, slot-inside, count-read}
-use Rattle.journal.proofs.Formed.{Formed}
-use Rattle.journal.proofs.Written.{Room, last-pushed, popped-pushed}
+use Rattle.entries.specs.Layout.{version, heading, countAt, countBytes, headerBytes, isRoom, entryBytes, slotAt, capacity, heldOf, Entry, firstEntries, areNamed, encodedEntry, encodedEntries, lastEntry, journalOf, withCount, withEntry, pushed, popped}
+use Rattle.entries.proofs.Places.{room-least, room-most, slot-next, slot-inside, count-read}
+use Rattle.entries.proofs.Formed.{Formed}
+use Rattle.entries.proofs.Written.{Room, last-pushed, popped-pushed}
 
 -- every entry has the bytes of a register
 abbrev pub EntriesSized : ℕ → List Entry → Type 0

@@ -8,7 +8,7 @@ use mathlib.Core.List.{List, [], _∷_}
 use native.Mathlib.Omega.{arith}
 use lib.ListN.{length}
 use Rattle.registers.specs.State.{State, Sized}
-use Rattle.journal.specs.Layout.{isRoom, journalOf, freshJournal}
+use Rattle.entries.specs.Layout.{isRoom, journalOf, freshJournal}
 use Rattle.journal.specs.Calls.{stepRefused, backRefused}
 use Rattle.journal.proofs.Accepted.{step-stood, back-stood}
 use Rattle.travel.specs.declared.Travelled.{Travelled}

@@ -16,11 +16,11 @@ use Rattle.registers.specs.State.{State}
 use Rattle.registers.proofs.Places.{register-inside, length-with-register}
 use Rattle.executes.specs.Execute.{destinationAfter}
 use Rattle.executes.proofs.Sizes.{length-destination}
-use Rattle.journal.specs.Layout.{countAt, countBytes, entryBytes, entryAt, heldOf, Entry, encodedEntry, lastEntry, withEntry}
+use Rattle.entries.specs.Layout.{countAt, countBytes, entryBytes, entryAt, heldOf, Entry, encodedEntry, lastEntry, withEntry}
 use Rattle.journal.specs.Calls.{fieldsNow, entryFor, restored, stepRefused, stepState, stepJournal, backRefused, backState, backJournal}
 use Rattle.journal.specs.Frame.{Kept}
 use Rattle.journal.proofs.Accepted.{step-accepted, step-stood, back-accepted, back-stood, can-take-back}
-use Rattle.journal.proofs.Written.{written, header, length-written, entry-room, entry-size}
+use Rattle.entries.proofs.Written.{written, header, length-written, entry-room, entry-size}
 use Rattle.travel.proofs.Undone.{destination, step-room}
 
 kept-same : (k d i : ℕ) (s after : State) (journal journal-after : List ℕ) → s ≡ after → journal ≡ journal-after → Kept k d i s journal after journal-after

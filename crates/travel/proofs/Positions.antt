@@ -11,12 +11,13 @@ use Rattle.machine.specs.Size.{isLegal}
 use Rattle.machine.specs.Refusal.{DONE, lengthTests, refused}
 use Rattle.machine.proofs.Tests.{none-refused}
 use Rattle.registers.specs.State.{State}
-use Rattle.journal.specs.Layout.{entryBytes, entryAt, heldOf, positionOf, entryIn, firstEntries, areNamed, freshJournal, pushed, popped}
-use Rattle.journal.specs.Calls.{roomTests, freshRefused, fieldsNow, entryFor, Freshened, Stepped, Backed}
-use Rattle.journal.proofs.Places.{slot-inside, named-both}
-use Rattle.journal.proofs.Formed.{Formed, length-legal, room-given}
+use Rattle.entries.specs.Layout.{entryBytes, entryAt, heldOf, positionOf, entryIn, firstEntries, areNamed, freshJournal, pushed, popped}
+use Rattle.entries.specs.Tests.{roomTests}
+use Rattle.journal.specs.Calls.{freshRefused, fieldsNow, entryFor, Freshened, Stepped, Backed}
+use Rattle.entries.proofs.Places.{slot-inside, named-both}
+use Rattle.entries.proofs.Formed.{Formed, length-legal, room-given}
 use Rattle.journal.proofs.Accepted.{step-accepted, back-accepted, position-accepts}
-use Rattle.journal.proofs.Written.{length-written, heading-written, held-written, entries-kept, held-pushed, formed-pushed}
+use Rattle.entries.proofs.Written.{length-written, heading-written, held-written, entries-kept, held-pushed, formed-pushed}
 use Rattle.travel.specs.declared.Travelled.{Travelled}
 use Rattle.travel.specs.Travel.{FreshStart, Made, PositionIs, OneOn}
 use Rattle.travel.proofs.Closed.{held-closed, formed-none}

@@ -19,12 +19,12 @@ use Rattle.words.specs.declared.Fields.{Fields}
 use Rattle.executes.specs.Execute.{destinationAfter, executed}
 use Rattle.executes.specs.Needs.{Executable}
 use Rattle.executes.proofs.Sizes.{length-destination}
-use Rattle.journal.specs.Layout.{Entry, entryBytes, entryAt, heldOf, pushed}
+use Rattle.entries.specs.Layout.{Entry, entryBytes, entryAt, heldOf, pushed}
 use Rattle.journal.specs.Calls.{fieldsNow, entryFor, restored, stepRefused, stepState, stepJournal, backRefused, backState, backJournal, Stepped}
 use Rattle.journal.specs.Frame.{Former}
-use Rattle.journal.proofs.Places.{count-bytes}
+use Rattle.entries.proofs.Places.{count-bytes}
 use Rattle.journal.proofs.Accepted.{AcceptedStep, step-accepted, back-accepted, back-accepts}
-use Rattle.journal.proofs.Written.{Room, held-pushed, last-pushed, formed-pushed, popped-pushed}
+use Rattle.entries.proofs.Written.{Room, held-pushed, last-pushed, formed-pushed, popped-pushed}
 
 module _ (f : Fields) (k : ℕ) (s : State) (x : Executable f k s) where
   pub destination : InFile k Vector (f .d) (s .z)

@@ -16,12 +16,12 @@ use Rattle.words.specs.Decode.{decoded}
 use Rattle.words.specs.declared.Decoded.the-variants.{Word}
 use Rattle.executes.specs.Execute.{executed}
 use Rattle.executes.specs.Needs.{Executable}
-use Rattle.journal.specs.Layout.{isRoom, capacity, heldOf, Entry, journalOf, pushed}
+use Rattle.entries.specs.Layout.{isRoom, capacity, heldOf, Entry, journalOf, pushed}
 use Rattle.journal.specs.Calls.{entryFor, restored, stepRefused, stepState, stepJournal, backRefused, backState, backJournal}
-use Rattle.journal.proofs.Places.{slots-inside, room-least}
+use Rattle.entries.proofs.Places.{slots-inside, room-least}
 use Rattle.journal.proofs.Accepted.{executable, step-accepted, back-accepted}
-use Rattle.journal.proofs.Formed.{Formed}
-use Rattle.journal.proofs.Written.{formed-pushed}
+use Rattle.entries.proofs.Formed.{Formed}
+use Rattle.entries.proofs.Written.{formed-pushed}
 use Rattle.travel.proofs.Closed.{EntriesSized, RoomAfter, sized-more, length-closed, held-closed, formed-none, has-room, pushed-closed, last-closed, popped-closed}
 use Rattle.travel.proofs.Undone.{old-whole, executed-sized, restored-executed}
 use Rattle.travel.specs.Walk.{fieldsIn, walkedState, walkedEntries, Walkable}

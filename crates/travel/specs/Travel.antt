@@ -6,7 +6,7 @@ use mathlib.Core.List.{List, [], _∷_}
 use lib.ListN.{length}
 use Rattle.machine.specs.Refusal.{DONE, unlessRefused}
 use Rattle.registers.specs.State.{State, Sized}
-use Rattle.journal.specs.Layout.{isRoom, journalOf, freshJournal}
+use Rattle.entries.specs.Layout.{isRoom, journalOf, freshJournal}
 use Rattle.journal.specs.Calls.{stepRefused, stepState, stepJournal, backRefused, backState, backJournal, positionAnswer, Leaves}
 use Rattle.travel.specs.declared.Travelled.{Travelled}
 use Rattle.travel.specs.Walk.{walkedState, walkedEntries, Walkable}

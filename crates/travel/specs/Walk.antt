@@ -10,7 +10,7 @@ use Rattle.words.specs.Decode.{decoded, fieldsOf}
 use Rattle.words.specs.declared.Fields.{Fields}
 use Rattle.words.specs.declared.Decoded.the-variants.{Word}
 use Rattle.executes.specs.Execute.{executed}
-use Rattle.journal.specs.Layout.{Entry, capacity}
+use Rattle.entries.specs.Layout.{Entry, capacity}
 use Rattle.journal.specs.Calls.{entryFor}
 
 -- the fields of word i of a program

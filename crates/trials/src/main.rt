@@ -3,7 +3,7 @@ use libc::STDOUT_FILENO;
 use machine::Length;
 ghost use Prim.Native.Nat.{_≤_};
 ghost use Rattle.machine.specs.Size.{mostLength};
-ghost use Rattle.journal.specs.Layout.{mostJournal};
+ghost use Rattle.entries.specs.Layout.{mostJournal};
 
 // The directions of a run, their seed, and how many there are to choose from: one of three is back.
 const DIRECTIONS: usize = 1200;
@@ -43,10 +43,10 @@ fn is_plain(k: usize, z: &[u8], p: &[u8], program: &[u8], journal: &[u8], steps:
     requires { ⌜ k ≤ mostLength ⌝ }
 {
     let mut plain_z = [0u8; fillings::MOST_VECTORS];
-    let mut plain_journal = [0u8; journal::layout::MOST];
+    let mut plain_journal = [0u8; entries::MOST];
     let z_end = z.len();
     let room = journal.len();
-    if z_end <= fillings::MOST_VECTORS && room <= journal::layout::MOST {
+    if z_end <= fillings::MOST_VECTORS && room <= entries::MOST {
         return is_walked(
             k,
             z,
@@ -128,7 +128,7 @@ fn show_journal(k: usize, journal: &mut [u8])
 fn show_run(k: usize, room: usize)
     requires { ⌜ (k ≤ mostLength) × (room ≤ mostJournal) ⌝ }
 {
-    let mut journal = [0u8; journal::layout::MOST];
+    let mut journal = [0u8; entries::MOST];
     show_figure(k as u64);
     show_figure(room as u64);
     show_journal(k, &mut journal[..room]);
@@ -142,7 +142,7 @@ fn show_length(k: usize)
     show_run(k, plain::HEADER);
     show_run(k, entry - 1);
     show_run(k, entry);
-    show_run(k, journal::layout::MOST);
+    show_run(k, entries::MOST);
 }
 
 fn main() {

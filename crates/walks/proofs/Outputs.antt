@@ -19,11 +19,11 @@ use Rattle.machine.proofs.Tests.{first-exactly, unless-refused}
 use Rattle.registers.specs.State.{State}
 use Rattle.names.specs.Digits.{digitsIn, widthWithin, decimalWidth}
 use Rattle.names.proofs.Puts.{put-length}
-use Rattle.journal.specs.Layout.{mostJournal, entryBytes, heldOf}
+use Rattle.entries.specs.Layout.{mostJournal, entryBytes, heldOf}
 use Rattle.journal.specs.Calls.{freshAfter, fieldsNow, entryFor, stepRefused, stepState, stepJournal, Stepped}
-use Rattle.journal.proofs.Places.{slot-next}
+use Rattle.entries.proofs.Places.{slot-next}
 use Rattle.journal.proofs.Accepted.{step-accepted}
-use Rattle.journal.proofs.Written.{entry-room, length-pushed, held-pushed}
+use Rattle.entries.proofs.Written.{entry-room, length-pushed, held-pushed}
 use Rattle.travel.proofs.Undone.{step-room}
 use Rattle.travel.proofs.Closed.{length-closed}
 use Rattle.session.specs.declared.Session.{Session}

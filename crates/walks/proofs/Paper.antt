@@ -14,11 +14,11 @@ use Rattle.machine.specs.Refusal.{DONE, END, UNKNOWN, UNDEFINED, FULL, unlessRe
 use Rattle.registers.specs.State.{State, Sized}
 use Rattle.words.specs.Decode.{decoded, numberOf}
 use Rattle.programs.specs.Word.{wordAt, wordsOf}
-use Rattle.journal.specs.Layout.{mostJournal, capacity, heldOf, journalOf}
+use Rattle.entries.specs.Layout.{mostJournal, capacity, heldOf, journalOf}
 use Rattle.journal.specs.Calls.{wordNow, fieldsNow, entryFor, stepRefused, stepState, stepJournal}
-use Rattle.journal.proofs.Formed.{Formed, formed-room, formed-journal}
+use Rattle.entries.proofs.Formed.{Formed, formed-room, formed-journal}
 use Rattle.journal.proofs.Accepted.{step-accepted}
-use Rattle.journal.proofs.Written.{held-pushed, formed-pushed}
+use Rattle.entries.proofs.Written.{held-pushed, formed-pushed}
 use Rattle.travel.proofs.Undone.{step-room, executed-sized}
 use Rattle.travel.proofs.Closed.{length-closed, held-closed}
 use Rattle.session.specs.declared.Session.{Session}

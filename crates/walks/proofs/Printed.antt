@@ -18,7 +18,7 @@ use Rattle.words.specs.Decode.{decoded, numberOf}
 use Rattle.programs.specs.Word.{wordAt, wordsOf}
 use Rattle.names.specs.Digits.{widthWithin, decimalWidth}
 use Rattle.names.specs.Named.{Put}
-use Rattle.journal.specs.Layout.{entryBytes}
+use Rattle.entries.specs.Layout.{entryBytes}
 use Rattle.lines.specs.Line.{mostLine, stepLine, lineRefused, LineWritten}
 use Rattle.lines.proofs.Lines.{written-put}
 use Rattle.lines.proofs.Longest.{done-most, step-most}

@@ -9,7 +9,7 @@ ghost use lib.ListN.{length};
 ghost use Rattle.machine.specs.Size.{mostLength, mostWords, vectorFile};
 ghost use Rattle.registers.specs.State.{state};
 ghost use Rattle.names.specs.Named.{Put};
-ghost use Rattle.journal.specs.Layout.{mostJournal};
+ghost use Rattle.entries.specs.Layout.{mostJournal};
 ghost use Rattle.lines.specs.Line.{mostLine};
 ghost use Rattle.walks.specs.Output.{linesFrom, linesMost, walkJournal, sessionLines, OutputWritten, Turned, Lent, Given};
 
@@ -26,7 +26,7 @@ const MOST_FILE: usize = Length::VECTORS * Length::MOST_BYTES;
 // the step that is then refused.
 const LINE_RATE: usize = 4;
 
-pub const MOST_OUTPUT: usize = LINE_RATE * journal::layout::MOST + lines::MOST_LINE;
+pub const MOST_OUTPUT: usize = LINE_RATE * entries::MOST + lines::MOST_LINE;
 
 // Takes the step at a position, and writes its line from a place on.
 fn step_line(
@@ -82,10 +82,10 @@ fn write_lines(
 }
 
 // Room for a journal.
-fn journal_room() -> [u8; journal::layout::MOST]
+fn journal_room() -> [u8; entries::MOST]
     ensures { λ r. ⌜ mostJournal ≡ length r ⌝ }
 {
-    [0; journal::layout::MOST]
+    [0; entries::MOST]
 }
 
 // Room for a vector file.

@@ -11,9 +11,10 @@ use Rattle.machine.specs.Refusal.{DONE, EMPTY, filesTests, refused}
 use Rattle.machine.proofs.Checks.{legal-most, files-checked}
 use Rattle.machine.proofs.Tests.{refused-early, refused-later}
 use Rattle.registers.specs.State.{state}
-use Rattle.journal.specs.Layout.{heldOf}
-use Rattle.journal.specs.Calls.{journalTests, emptyTests, backRefused}
-use Rattle.journal.proofs.Formed.{journal-checked}
+use Rattle.entries.specs.Layout.{heldOf}
+use Rattle.entries.specs.Tests.{journalTests}
+use Rattle.journal.specs.Calls.{emptyTests, backRefused}
+use Rattle.entries.proofs.Formed.{journal-checked}
 use Rattle.journal.proofs.check_back.Statement.{statement}
 use Rattle.journal.proofs.check_back.Tie as tie
 

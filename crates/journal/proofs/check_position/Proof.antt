@@ -6,8 +6,9 @@ use denote.Ref.{now}
 use Rattle.machine.specs.Refusal.{lengthTests, refused}
 use Rattle.machine.proofs.Checks.{legal-most}
 use Rattle.machine.proofs.Tests.{refused-early, refused-later}
-use Rattle.journal.specs.Calls.{journalTests, positionRefused}
-use Rattle.journal.proofs.Formed.{length-legal}
+use Rattle.entries.specs.Tests.{journalTests}
+use Rattle.journal.specs.Calls.{positionRefused}
+use Rattle.entries.proofs.Formed.{length-legal}
 use Rattle.journal.proofs.check_position.Statement.{statement}
 use Rattle.journal.proofs.check_position.Tie as tie
 

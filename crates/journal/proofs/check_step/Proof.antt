@@ -13,9 +13,10 @@ use Rattle.machine.proofs.Checks.{legal-most, files-checked}
 use Rattle.machine.proofs.Tests.{refused-early, refused-later}
 use Rattle.registers.specs.State.{state}
 use Rattle.programs.specs.Word.{wordsOf, endTests}
-use Rattle.journal.specs.Layout.{positionOf}
-use Rattle.journal.specs.Calls.{journalTests, startRefused}
-use Rattle.journal.proofs.Formed.{journal-checked}
+use Rattle.entries.specs.Layout.{positionOf}
+use Rattle.entries.specs.Tests.{journalTests}
+use Rattle.journal.specs.Calls.{startRefused}
+use Rattle.entries.proofs.Formed.{journal-checked}
 use Rattle.journal.proofs.check_step.Statement.{statement}
 use Rattle.journal.proofs.check_step.Tie as tie
 

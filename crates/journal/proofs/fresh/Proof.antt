@@ -9,10 +9,11 @@ use lib.ListN.{length}
 use Rattle.machine.specs.Refusal.{lengthTests, refused}
 use Rattle.machine.proofs.Checks.{legal-most}
 use Rattle.machine.proofs.Tests.{refused-early, refused-later, kept, left}
-use Rattle.journal.specs.Layout.{freshJournal}
-use Rattle.journal.specs.Calls.{roomTests, freshRefused, Freshened}
-use Rattle.journal.proofs.Places.{room-least}
-use Rattle.journal.proofs.Formed.{length-legal, room-given}
+use Rattle.entries.specs.Layout.{freshJournal}
+use Rattle.entries.specs.Tests.{roomTests}
+use Rattle.journal.specs.Calls.{freshRefused, Freshened}
+use Rattle.entries.proofs.Places.{room-least}
+use Rattle.entries.proofs.Formed.{length-legal, room-given}
 use Rattle.journal.proofs.fresh.Statement.{statement}
 use Rattle.journal.proofs.fresh.Tie as tie
 
