@@ -12,7 +12,7 @@ use Rattle.registers.specs.State.{State, read, write}
 use Rattle.programs.specs.Word.{wordAt, endTests}
 use Rattle.words.specs.Decode.{decoded, fieldsOf, wordTests}
 use Rattle.words.specs.declared.Fields.{Fields}
-use Rattle.executes.specs.Execute.{executed}
+use Rattle.meaning.specs.Execute.{executed}
 use Rattle.journal.specs.Layout.{isRoom, isJournal, capacity, heldOf, positionOf, Entry, lastEntry, freshJournal, pushed, popped}
 
 -- the journal's size is outside its limits

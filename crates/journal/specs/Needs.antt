@@ -8,7 +8,7 @@ use Rattle.registers.specs.declared.Kind.the-variants.{Vector}
 use Rattle.registers.specs.Register.{InFile, withVector}
 use Rattle.registers.specs.State.{State}
 use Rattle.words.specs.declared.Fields.{Fields}
-use Rattle.executes.specs.Needs.{Executable}
+use Rattle.meaning.specs.Needs.{Executable}
 use Rattle.journal.specs.declared.layout.Layout.{Layout}
 use Rattle.journal.specs.Layout.{headerBytes, entryBytes, capacity, entryAt, heldOf, entryIn, lastEntry, popped}
 
