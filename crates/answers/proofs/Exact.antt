@@ -31,12 +31,12 @@ use Rattle.words.specs.declared.Family.the-variants.{Low, Wide}
 use Rattle.words.specs.declared.LowFamily.the-variants.{Reduction, Segment, Long}
 use Rattle.words.specs.declared.WideFamily.the-variants.{Pairwise, Widening}
 use Rattle.sums.proofs.Accepted.{width-legal}
-use Rattle.executes.specs.Terms.{Operands, Source, Operand1, Operand2, Old, operandOf, Term, added, sumOf, governedTerm, freeTerm, dataBytes}
-use Rattle.executes.specs.Meaning.{familyTerms, widthAfter}
-use Rattle.executes.specs.Execute.{operandsOf, maskOf, feeds, integerAfter, widthFor, lanesFor, writtenFor, destinationAfter}
-use Rattle.executes.specs.Needs.{Executable}
-use Rattle.executes.specs.Theorems.{isExact}
-use Rattle.executes.proofs.Sizes.{false-not-true, k-most}
+use Rattle.meaning.specs.Terms.{Operands, Source, Operand1, Operand2, Old, operandOf, Term, added, sumOf, governedTerm, freeTerm, dataBytes}
+use Rattle.meaning.specs.Meaning.{familyTerms, widthAfter}
+use Rattle.meaning.specs.Execute.{operandsOf, maskOf, feeds, integerAfter, widthFor, lanesFor, writtenFor, destinationAfter}
+use Rattle.meaning.specs.Needs.{Executable}
+use Rattle.meaning.specs.Theorems.{isExact}
+use Rattle.meaning.proofs.Sizes.{false-not-true, k-most}
 
 -- terms of one sign and width
 abbrev Alike : Bool → ℕ → List Term → Type 0

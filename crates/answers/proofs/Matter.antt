@@ -33,13 +33,13 @@ use Rattle.sums.specs.Panel.{perSegment, FillsSegment}
 use Rattle.sums.proofs.Accepted.{width-legal}
 use Rattle.sums.proofs.Matters.{same-active}
 use Rattle.sums.proofs.Rows.{lane-inside, lane-place}
-use Rattle.executes.specs.Terms.{Operands, Term, elementOf, sumOf, governedTerm}
-use Rattle.executes.specs.Meaning.{familyTerms, lanesAfter}
-use Rattle.executes.specs.Execute.{operandsOf, feeds, integerAfter, widthFor, lanesFor, destinationAfter}
-use Rattle.executes.specs.Needs.{Executable}
-use Rattle.executes.specs.Theorems.{isGoverned, governedOf, Agree}
-use Rattle.executes.proofs.Halves.{element-same, half-same}
-use Rattle.executes.proofs.Sizes.{false-not-true, vector-length, whole, wide-halves}
+use Rattle.meaning.specs.Terms.{Operands, Term, elementOf, sumOf, governedTerm}
+use Rattle.meaning.specs.Meaning.{familyTerms, lanesAfter}
+use Rattle.meaning.specs.Execute.{operandsOf, feeds, integerAfter, widthFor, lanesFor, destinationAfter}
+use Rattle.meaning.specs.Needs.{Executable}
+use Rattle.meaning.specs.Theorems.{isGoverned, governedOf, Agree}
+use Rattle.widens.proofs.Halves.{element-same, half-same}
+use Rattle.meaning.proofs.Sizes.{false-not-true, vector-length, whole, wide-halves}
 
 module _ (o o′ : Operands) where
   -- two terms are active in both or in neither, and their elements are the same where they are

@@ -20,8 +20,8 @@ use Rattle.words.specs.declared.LowFamily.the-variants.{Reduction, Segment}
 use Rattle.words.specs.declared.WideFamily.the-variants.{Pairwise}
 use Rattle.sums.specs.Panel.{perSegment, rowsSum}
 use Rattle.sums.specs.Calls.{panelAnswer, subtotalAnswer}
-use Rattle.executes.specs.Execute.{destinationAfter, integerAfter, widthFor, lanesFor, executed}
-use Rattle.executes.specs.Theorems.{isExact, isGoverned, governedOf, Agree}
+use Rattle.meaning.specs.Execute.{destinationAfter, integerAfter, widthFor, lanesFor, executed}
+use Rattle.meaning.specs.Theorems.{isExact, isGoverned, governedOf, Agree}
 use Rattle.answers.proofs.Exact.{answer-modulo, answer-exact}
 use Rattle.answers.proofs.Matter.{only-active-matters}
 use Rattle.answers.proofs.Calls.{register-after, subtotal-is-the-sum, addqv-adds-the-panel}

@@ -4,11 +4,8 @@ use words::Family;
 use words::Fields;
 ghost use mathlib.Core.Path.{_≡_};
 ghost use Rattle.registers.specs.State.{state};
-ghost use Rattle.executes.specs.Execute.{executed};
-ghost use Rattle.executes.specs.Needs.{Executable};
-
-pub mod low;
-pub mod wide;
+ghost use Rattle.meaning.specs.Execute.{executed};
+ghost use Rattle.meaning.specs.Needs.{Executable};
 
 // Executes a word: its destination's bytes become what its form says, from the registers as they were.
 pub fn execute(f: Fields, k: usize, z: &mut [u8], p: &[u8])
@@ -19,9 +16,9 @@ pub fn execute(f: Fields, k: usize, z: &mut [u8], p: &[u8])
     let family = form.family;
     match family {
         Family::Low(low) => {
-            let bytes = low::low_bytes(low, form.parameters, f, k, z, p);
+            let bytes = reduces::low_bytes(low, form.parameters, f, k, z, p);
             registers::write_register(k, Kind::Vector, z, f.d, &bytes);
         }
-        Family::Wide(wide) => wide::write_lanes(wide, form.parameters, f, k, z, p),
+        Family::Wide(wide) => widens::write_lanes(wide, form.parameters, f, k, z, p),
     }
 }

@@ -23,8 +23,8 @@ use Rattle.words.specs.declared.Fields.{Fields}
 use Rattle.words.specs.declared.Decoded.{Decoded}
 use Rattle.words.specs.declared.Decoded.the-variants.{Unknown, Undefined, Word}
 use Rattle.words.proofs.Encoding.{decoded-in-range}
-use Rattle.executes.specs.Execute.{executed}
-use Rattle.executes.specs.Needs.{Executable}
+use Rattle.meaning.specs.Execute.{executed}
+use Rattle.meaning.specs.Needs.{Executable}
 use Rattle.entries.specs.Layout.{capacity, heldOf, positionOf, lastEntry, pushed, popped}
 use Rattle.entries.specs.Tests.{journalTests}
 use Rattle.journal.specs.Calls.{fullTests, emptyTests, startTests, wordNow, fieldsNow, startRefused, stepRefused, stepState, stepJournal, entryFor, restored, backRefused, backState, backJournal, positionRefused, Stepped, Backed, Performed}

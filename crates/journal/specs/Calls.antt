@@ -11,7 +11,7 @@ use Rattle.registers.specs.State.{State, read, write}
 use Rattle.programs.specs.Word.{wordAt, endTests}
 use Rattle.words.specs.Decode.{decoded, fieldsOf, wordTests}
 use Rattle.words.specs.declared.Fields.{Fields}
-use Rattle.executes.specs.Execute.{executed}
+use Rattle.meaning.specs.Execute.{executed}
 use Rattle.entries.specs.Tests.{roomTests, journalTests}
 use Rattle.entries.specs.Layout.{capacity, heldOf, positionOf, Entry, lastEntry, freshJournal, pushed, popped}
 

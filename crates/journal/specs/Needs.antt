@@ -5,7 +5,7 @@ use lib.ListN.{length}
 use Rattle.machine.specs.Size.{mostWords}
 use Rattle.registers.specs.State.{State}
 use Rattle.words.specs.declared.Fields.{Fields}
-use Rattle.executes.specs.Needs.{Executable}
+use Rattle.meaning.specs.Needs.{Executable}
 use Rattle.entries.specs.Layout.{headerBytes, heldOf}
 use Rattle.entries.specs.Needs.{Append}
 

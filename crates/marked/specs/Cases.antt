@@ -10,7 +10,7 @@ use Rattle.registers.specs.declared.Kind.the-variants.{Vector}
 use Rattle.machine.specs.Refusal.{DONE, UNDEFINED, unlessRefused}
 use Rattle.parts.specs.Number.{number, bytesOf}
 use Rattle.words.specs.Decode.{decoded, numberOf, fieldsOf}
-use Rattle.executes.specs.Execute.{executed}
+use Rattle.meaning.specs.Execute.{executed}
 use Rattle.words.specs.Text.{bytes}
 use Rattle.names.specs.Named.{textOfWord}
 

@@ -7,7 +7,7 @@ use words::Fields;
 ghost use Prim.Native.Nat.{_≤_};
 ghost use Rattle.machine.specs.Size.{mostLength};
 ghost use Rattle.registers.specs.State.{state};
-ghost use Rattle.executes.specs.Needs.{Executable};
+ghost use Rattle.meaning.specs.Needs.{Executable};
 
 // The mark, the version, and where the version, the length and the count stand.
 const MARK: [u8; VERSION_AT] = *b"LNJ";

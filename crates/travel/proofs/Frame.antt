@@ -14,8 +14,8 @@ use Rattle.registers.specs.declared.Kind.the-variants.{Vector}
 use Rattle.registers.specs.Register.{registerAt, InFile}
 use Rattle.registers.specs.State.{State}
 use Rattle.registers.proofs.Places.{register-inside, length-with-register}
-use Rattle.executes.specs.Execute.{destinationAfter}
-use Rattle.executes.proofs.Sizes.{length-destination}
+use Rattle.meaning.specs.Execute.{destinationAfter}
+use Rattle.meaning.proofs.Sizes.{length-destination}
 use Rattle.entries.specs.Layout.{countAt, countBytes, entryBytes, entryAt, heldOf, Entry, encodedEntry, lastEntry, withEntry}
 use Rattle.journal.specs.Calls.{fieldsNow, entryFor, restored, stepRefused, stepState, stepJournal, backRefused, backState, backJournal}
 use Rattle.journal.specs.Frame.{Kept}

@@ -16,9 +16,9 @@ use Rattle.registers.specs.Register.{registerAt, vectorOf, InFile}
 use Rattle.registers.specs.State.{State, state, Sized}
 use Rattle.registers.proofs.Places.{in-files, register-inside, length-register, length-with-register}
 use Rattle.words.specs.declared.Fields.{Fields}
-use Rattle.executes.specs.Execute.{destinationAfter, executed}
-use Rattle.executes.specs.Needs.{Executable}
-use Rattle.executes.proofs.Sizes.{length-destination}
+use Rattle.meaning.specs.Execute.{destinationAfter, executed}
+use Rattle.meaning.specs.Needs.{Executable}
+use Rattle.meaning.proofs.Sizes.{length-destination}
 use Rattle.entries.specs.Layout.{Entry, entryBytes, entryAt, heldOf, pushed}
 use Rattle.journal.specs.Calls.{fieldsNow, entryFor, restored, stepRefused, stepState, stepJournal, backRefused, backState, backJournal, Stepped}
 use Rattle.journal.specs.Frame.{Former}

@@ -14,8 +14,8 @@ use Rattle.registers.specs.State.{State, Sized}
 use Rattle.programs.specs.Word.{wordAt, wordsOf}
 use Rattle.words.specs.Decode.{decoded}
 use Rattle.words.specs.declared.Decoded.the-variants.{Word}
-use Rattle.executes.specs.Execute.{executed}
-use Rattle.executes.specs.Needs.{Executable}
+use Rattle.meaning.specs.Execute.{executed}
+use Rattle.meaning.specs.Needs.{Executable}
 use Rattle.entries.specs.Layout.{isRoom, capacity, heldOf, Entry, journalOf, pushed}
 use Rattle.journal.specs.Calls.{entryFor, restored, stepRefused, stepState, stepJournal, backRefused, backState, backJournal}
 use Rattle.entries.proofs.Places.{slots-inside, room-least}

@@ -9,7 +9,7 @@ use Rattle.programs.specs.Word.{wordAt, wordsOf}
 use Rattle.words.specs.Decode.{decoded, fieldsOf}
 use Rattle.words.specs.declared.Fields.{Fields}
 use Rattle.words.specs.declared.Decoded.the-variants.{Word}
-use Rattle.executes.specs.Execute.{executed}
+use Rattle.meaning.specs.Execute.{executed}
 use Rattle.entries.specs.Layout.{Entry, capacity}
 use Rattle.journal.specs.Calls.{entryFor}
 

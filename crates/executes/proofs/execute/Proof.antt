@@ -13,9 +13,9 @@ use Rattle.registers.specs.State.{state}
 use Rattle.words.specs.Table.{formOf, familyOf}
 use Rattle.words.specs.declared.Form.{Form}
 use Rattle.words.specs.declared.Family.the-variants.{Low, Wide}
-use Rattle.executes.specs.Execute.{writtenFor}
-use Rattle.executes.proofs.Padded.{length-padded, padded-padded}
-use Rattle.executes.proofs.Sizes.{k-least, vector-in, low-written-fits}
+use Rattle.meaning.specs.Execute.{writtenFor}
+use Rattle.meaning.proofs.Padded.{length-padded, padded-padded}
+use Rattle.meaning.proofs.Sizes.{k-least, vector-in, low-written-fits}
 use Rattle.executes.proofs.execute.Statement.{statement}
 use Rattle.executes.proofs.execute.Tie as tie
 

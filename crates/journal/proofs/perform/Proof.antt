@@ -12,7 +12,7 @@ use Rattle.machine.specs.Refusal.{DONE, FULL}
 use Rattle.machine.proofs.Checks.{legal-most}
 use Rattle.registers.specs.State.{State, state}
 use Rattle.words.specs.declared.Fields.{Fields}
-use Rattle.executes.specs.Execute.{executed}
+use Rattle.meaning.specs.Execute.{executed}
 use Rattle.entries.specs.Layout.{capacity, heldOf, pushed}
 use Rattle.journal.specs.Calls.{entryFor, Performed}
 use Rattle.journal.proofs.Accepted.{can-append}

@@ -3,7 +3,7 @@
 use borrow.Author.Needs.{needs}
 use denote.Ref.{now}
 use Rattle.registers.specs.State.{state}
-use Rattle.executes.proofs.Sizes.{vector-in}
+use Rattle.meaning.proofs.Sizes.{vector-in}
 use Rattle.plain.proofs.walk_fields.Statement.{statement}
 use Rattle.plain.proofs.walk_fields.Tie as tie
 

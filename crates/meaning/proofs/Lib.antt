@@ -1,0 +1,4 @@
+pub mod Padded
+pub mod Sizes
+pub mod Summed
+pub mod LowWritten

@@ -1,0 +1,139 @@
+-- The registers that a word names have the sizes that the code asks for, its lanes fill them, and what it writes fits its destination.
+-- Assumes nothing.
+use Prim.Native.Nat.{ℕ, zero, suc, _+_, _*_, _/_, _≤_, _<_}
+use mathlib.Core.Path.{_≡_, refl}
+use mathlib.Core.Bool.{Bool, true, false, not}
+use native.Mathlib.Omega.{arith}
+use lib.Dec.{eqb, leb}
+use lib.ListN.{length}
+use borrow.Author.Tests.{leb-true}
+use Rattle.machine.specs.Size.{vectors, vectorBytes, predicateBytes, segmentBytes, mostLength}
+use Rattle.machine.proofs.Checks.{legal-least, legal-most}
+use Rattle.parts.proofs.Same.{both-left, both-right}
+use Rattle.registers.specs.Register.{vectorOf, predicateOf, InFile}
+use Rattle.registers.specs.State.{State}
+use Rattle.registers.specs.declared.Kind.the-variants.{Vector, Predicate}
+use Rattle.registers.proofs.Places.{in-files, length-register}
+use Rattle.lanes.specs.Lane.{widthOf}
+use Rattle.lanes.proofs.Written.{length-lanes}
+use Rattle.words.specs.Table.{formOf, familyOf, allowsLong, allowsLow, allowsFamily}
+use Rattle.words.proofs.Decoding.{governing-below, second-below}
+use Rattle.words.specs.declared.Fields.{Fields}
+use Rattle.words.specs.declared.Family.{Family}
+use Rattle.words.specs.declared.Family.the-variants.{Low, Wide}
+use Rattle.words.specs.declared.LowFamily.{LowFamily}
+use Rattle.words.specs.declared.LowFamily.the-variants.{Reduction, Segment, Long}
+use Rattle.words.specs.declared.WideFamily.{WideFamily}
+use Rattle.sums.specs.Sums.{Governs}
+use Rattle.sums.proofs.Accepted.{width-legal}
+use Rattle.meaning.specs.Meaning.{lowWidth, widthAfter, lowLanes, lanesAfter}
+use Rattle.meaning.specs.Execute.{widthFor, lanesFor, writtenFor, destinationAfter}
+use Rattle.meaning.specs.Needs.{Executable}
+use Rattle.meaning.proofs.Padded.{length-padded}
+
+pub false-not-true : false ≡ true → ⊥
+false-not-true e = let z : _≡_ {A = ℕ} 0 1 = cc in omega arith
+
+-- a fact of the four sizes
+sizes : (P : ℕ → Type 0) → P 0 → P 1 → P 2 → P 3 → (size : ℕ) → size < 4 → P size
+sizes P a b c d zero h = a
+sizes P a b c d (suc zero) h = b
+sizes P a b c d (suc (suc zero)) h = c
+sizes P a b c d (suc (suc (suc zero))) h = d
+sizes P a b c d (suc (suc (suc (suc n)))) h = absurd (omega arith)
+
+-- lanes of each size fill a register
+pub whole : (k size : ℕ) → size < 4 → vectorBytes k / widthOf size * widthOf size ≡ vectorBytes k
+whole k = sizes (λ s. vectorBytes k / widthOf s * widthOf s ≡ vectorBytes k) (omega arith) (omega arith) (omega arith) (omega arith)
+
+-- a lane of more than one byte is two half lanes
+halves : (size : ℕ) → size < 4 → 1 ≤ size → widthOf size / 2 * 2 ≡ widthOf size
+halves = sizes (λ s. 1 ≤ s → widthOf s / 2 * 2 ≡ widthOf s) (λ h. absurd (omega arith)) (λ h. refl) (λ h. refl) (λ h. refl)
+
+-- and has two bytes, four or eight
+eight : (size : ℕ) → size < 4 → 1 ≤ size → (widthOf size ≡ 2 → ⊥) → (widthOf size ≡ 4 → ⊥) → widthOf size ≡ 8
+eight =
+    sizes (λ s. 1 ≤ s → (widthOf s ≡ 2 → ⊥) → (widthOf s ≡ 4 → ⊥) → widthOf s ≡ 8) (λ h. absurd (omega arith)) (λ h not2 not4. absurd (not2 refl))
+    (λ h not2 not4. absurd (not4 refl))
+    (λ h not2 not4. refl)
+
+-- the long families' lanes have at most eight bytes at twice the width
+doubles : (q size : ℕ) → size < 4 → allowsLong q size ≡ true → 2 * widthOf size ≤ 8
+doubles q =
+    sizes (λ s. allowsLong q s ≡ true → 2 * widthOf s ≤ 8) (λ a. omega arith) (λ a. omega arith) (λ a. omega arith)
+    (λ a. absurd (false-not-true (both-right (not (eqb (3 * 2 + q) 0b100)) false a)))
+
+-- the low families write lanes of at most eight bytes, sixteen bytes in all
+pub low-most : (low : LowFamily) (signed : Bool) (q size : ℕ) → size < 4 → allowsLow low signed q size ≡ true → lowWidth low (widthOf size) ≤ 8
+low-most Reduction signed q size s a = omega arith
+low-most Segment signed q size s a = width-legal size s .1
+low-most Long signed q size s a = doubles q size s a
+
+pub low-fits : (low : LowFamily) (signed : Bool) (q size : ℕ) → size < 4 → allowsLow low signed q size ≡ true
+    → lowLanes low (widthOf size) * lowWidth low (widthOf size) ≤ segmentBytes
+low-fits Reduction signed q size s a = omega arith
+low-fits Segment signed q size s a = omega (arith, width-legal size s .2)
+low-fits Long signed q size s a = omega (arith, doubles q size s a)
+
+-- no family writes more than its destination has
+fits : (family : Family) (signed : Bool) (k q size : ℕ) → 1 ≤ k → size < 4 → allowsFamily family signed q size ≡ true
+    → lanesAfter family (widthOf size) (vectorBytes k) * widthAfter family (widthOf size) ≤ vectorBytes k
+fits (Low low) signed k q size l s a = omega (arith, low-fits low signed q size s a)
+fits (Wide wide) signed k q size l s a = omega (arith, whole k size s)
+
+module _ (f : Fields) (k : ℕ) (s : State) (x : Executable f k s) where
+  pub k-least : 1 ≤ k
+  k-least = legal-least k (x .lent .legal)
+
+  pub k-most : k ≤ mostLength
+  k-most = legal-most k (x .lent .legal)
+
+  pub governing-in : InFile k Predicate (f .g) (s .p)
+  governing-in = in-files k (s .z) (s .p) Predicate (f .g) (x .lent) (omega (arith, governing-below (familyOf (f .row)) (x .fields .g)))
+
+  pub vector-in : (r : ℕ) → r < vectors → InFile k Vector r (s .z)
+  vector-in r h = in-files k (s .z) (s .p) Vector r (x .lent) h
+
+  pub second-most : f .m < vectors
+  second-most = second-below (familyOf (f .row)) (x .fields .m)
+
+  pub vector-length : (r : ℕ) → r < vectors → length (vectorOf k r (s .z)) ≡ vectorBytes k
+  vector-length r h = length-register k Vector r (s .z) (vector-in r h)
+
+  -- the governing predicate has a bit for each byte of a register
+  pub governs : (r : ℕ) → r < vectors → Governs (widthOf (f .size)) (predicateOf k (f .g) (s .p)) (vectorOf k r (s .z))
+  governs r h =
+      let size : length (predicateOf k (f .g) (s .p)) ≡ predicateBytes k = length-register k Predicate (f .g) (s .p) governing-in in
+      record {
+        least = width-legal (f .size) (x .fields .size) .0;
+        most = width-legal (f .size) (x .fields .size) .1;
+        covers = omega (arith, vector-length r h, size);
+        bits = omega (arith, size, k-most);
+      }
+
+  -- a word of a wide family has lanes of more than one byte: two halves each, of eight bytes where not of two or four
+  module _ (wide : WideFamily) (is : familyOf (f .row) ≡ Wide wide) where
+    wider : 1 ≤ f .size
+    wider = leb-true 1 (f .size) (both-left (leb 1 (f .size)) (leb (f .size) 3) (rw is at (x .fields .allowed)))
+
+    pub wide-halves : widthOf (f .size) / 2 * 2 ≡ widthOf (f .size)
+    wide-halves = halves (f .size) (x .fields .size) wider
+
+    pub wide-eight : (widthOf (f .size) ≡ 2 → ⊥) → (widthOf (f .size) ≡ 4 → ⊥) → widthOf (f .size) ≡ 8
+    wide-eight = eight (f .size) (x .fields .size) wider
+
+  -- what a word writes fits its destination
+  pub written-fits : length (writtenFor f k s) ≤ vectorBytes k
+  written-fits =
+      rw (length-lanes (widthFor f) 0 (lanesFor f k) _)
+      (fits (familyOf (f .row)) (formOf (f .row) .parameters .signed) k (f .q) (f .size) k-least (x .fields .size) (x .fields .allowed))
+
+  -- the destination keeps its size
+  pub length-destination : length (destinationAfter f k s) ≡ vectorBytes k
+  length-destination = length-padded (vectorBytes k) (writtenFor f k s) written-fits
+
+  -- and a low family's the low sixteen bytes
+  pub low-written-fits : (low : LowFamily) → familyOf (f .row) ≡ Low low → length (writtenFor f k s) ≤ segmentBytes
+  low-written-fits low is =
+      rw (length-lanes (widthFor f) 0 (lanesFor f k) _, is)
+      (low-fits low (formOf (f .row) .parameters .signed) (f .q) (f .size) (x .fields .size) (rw is at (x .fields .allowed)))

@@ -1,0 +1,91 @@
+-- `low_bytes` meets its contract: the registers that the fields name are what the family's function asks for, and its sum is what the word
+-- writes.
+-- Assumes nothing.
+use borrow.Author.Needs.{needs}
+use mathlib.Core.Path.{_∙_, ap}
+use native.Mathlib.Omega.{arith}
+use Rattle.machine.specs.Size.{segmentBytes}
+use Rattle.registers.specs.Register.{padded}
+use Rattle.words.proofs.Decoding.{q-below}
+use Rattle.words.specs.Table.{familyOf}
+use Rattle.words.specs.declared.Family.the-variants.{Low}
+use Rattle.sums.proofs.Accepted.{width-legal}
+use Rattle.meaning.proofs.Sizes.{k-least, k-most, governing-in, vector-in, vector-length, governs}
+use Rattle.meaning.proofs.LowWritten.{written-reduction, written-segment, written-long}
+use Rattle.reduces.proofs.low_bytes.Statement.{statement}
+use Rattle.reduces.proofs.low_bytes.Tie as tie
+
+-- where the registers are read from
+abbrev start : tie.After-register2 → tie.Start
+start c = c .before .before .before .before .before
+
+register-requires : tie.Need-register-requires
+register-requires c κs = governing-in _ _ _ (c .before .before .before .pre .0 .word)
+
+register-requires-2 : tie.Need-register-requires-2
+register-requires-2 c κs = let h = c .before .before .before .before .pre .0 .word in vector-in _ _ _ h _ (h .fields .n)
+
+reduction-low-requires : tie.Need-reduction-low-requires
+reduction-low-requires c κs =
+    let r = c .before .before in
+    let h = start r .pre .0 .word in
+    rw (r .before .before .width-of .ensures, r .before .register .ensures, r .register2 .ensures) (governs _ _ _ h _ (h .fields .n))
+
+segment-low-requires : tie.Need-segment-low-requires
+segment-low-requires c κs =
+    let r = c .before .before in
+    let h = start r .pre .0 .word in
+    let size = vector-length _ _ _ h _ (h .fields .n) in
+    rw (r .before .before .width-of .ensures, r .before .register .ensures, r .register2 .ensures)
+    (record {
+      governs = governs _ _ _ h _ (h .fields .n);
+      fills = width-legal _ (h .fields .size) .2;
+      segments = record { whole = omega (arith, size); few = omega (arith, size, k-most _ _ _ h) };
+    })
+
+long-low-requires : tie.Need-long-low-requires
+long-low-requires c κs =
+    let r = c .before .before in
+    let h = start r .pre .0 .word in
+    rw (r .before .before .width-of .ensures, r .register2 .ensures)
+    (record {
+      least = width-legal _ (h .fields .size) .0;
+      most = width-legal _ (h .fields .size) .1;
+      low = q-below (familyOf (start r .args .f .row)) (h .fields .q);
+      one = omega (arith, vector-length _ _ _ h _ (h .fields .n), k-least _ _ _ h);
+    })
+
+returns : tie.Need-returns
+returns c =
+    let r = c .before .before .before in
+    (rw (r .before .before .width-of .ensures, r .before .register .ensures, r .register2 .ensures) at (c .reduction-low .ensures))
+    ∙ ap (padded segmentBytes) (written-reduction _ _ _ (start r .pre .0 .word) _ (start r .pre .1) (start r .pre .0 .is ∙ ap Low (c .before .enum-told .given .1)))
+
+returns-2 : tie.Need-returns-2
+returns-2 c =
+    let r = c .before .before .before in
+    (rw (r .before .before .width-of .ensures, r .before .register .ensures, r .register2 .ensures) at (c .segment-low .ensures))
+    ∙ written-segment _ _ _ (start r .pre .0 .word) (start r .pre .0 .is ∙ ap Low (c .before .enum-told2 .given .1))
+
+returns-3 : tie.Need-returns-3
+returns-3 c =
+    let r = c .before .before .before in
+    (rw (r .before .before .width-of .ensures, r .register2 .ensures) at (c .long-low .ensures))
+    ∙ ap (padded segmentBytes) (written-long _ _ _ (start r .pre .0 .word) _ (start r .pre .1) (start r .pre .0 .is ∙ ap Low (c .before .enum-told3 .given .1)))
+
+pub low-bytes-spec : {M : Type 1} → statement M
+low-bytes-spec =
+    tie.close
+    (tie.spec
+    (λ c κs. search needs)
+    register-requires
+    register-requires-2
+    (λ c. search needs)
+    reduction-low-requires
+    (λ c. search needs)
+    segment-low-requires
+    (λ c. search needs)
+    long-low-requires
+    returns
+    returns-2
+    returns-3)

@@ -1,0 +1,66 @@
+-- What the lane of a turn is made of: the registers that the fields name hold it, each family's sum is that of what feeds it, and its place
+-- lies within the destination.
+-- Assumes nothing.
+use Prim.Native.Nat.{ℕ, _+_, _*_, _≤_, _<_}
+use mathlib.Core.Path.{_≡_, _∙_, ap}
+use mathlib.Core.List.{List, []}
+use native.Mathlib.Omega.{arith}
+use Rattle.machine.specs.Size.{vectors, vectorBytes}
+use Rattle.parts.specs.Number.{withNumber}
+use Rattle.registers.specs.Register.{registerAt, vectorOf, predicateOf, InFile}
+use Rattle.registers.specs.State.{State}
+use Rattle.registers.specs.declared.Kind.the-variants.{Vector}
+use Rattle.lanes.specs.Integer.{residue}
+use Rattle.words.specs.declared.Fields.{Fields}
+use Rattle.words.specs.declared.Parameters.{Parameters}
+use Rattle.words.specs.declared.WideFamily.{WideFamily}
+use Rattle.words.specs.declared.WideFamily.the-variants.{Pairwise, Widening}
+use Rattle.sums.specs.Sums.{Governs}
+use Rattle.sums.proofs.Accepted.{width-legal}
+use Rattle.meaning.specs.Terms.{sumOf, pairwiseTerms, wideningTerms}
+use Rattle.meaning.specs.Execute.{integerAfter, laneWritten}
+use Rattle.meaning.specs.Needs.{Executable}
+use Rattle.widens.specs.Needs.{HalfLanes, WideTurn}
+use Rattle.meaning.proofs.Sizes.{vector-in, vector-length, governs, wide-halves}
+use Rattle.widens.proofs.InPlace.{lane-ends}
+
+module _ (ps : Parameters) (w e : ℕ) (f : Fields) (k : ℕ) (s : State) where
+  module _ (wide : WideFamily) (t : WideTurn wide ps w e f k s) where
+    abbrev word : Executable f k s
+    word = t .lanes .word .word
+
+    -- two registers that are read hold lane e
+    pub both-hold : (i j : ℕ) (a b : List ℕ) → i < vectors → j < vectors → a ≡ vectorOf k i (s .z) → b ≡ vectorOf k j (s .z) → HalfLanes w e 0 1 a b
+    both-hold i j a b l m p q =
+        rw (t .lanes .width, p, q)
+        (record {
+          some = width-legal (f .size) (word .fields .size) .0;
+          most = width-legal (f .size) (word .fields .size) .1;
+          halves = wide-halves f k s word wide (t .lanes .word .is);
+          first = rw (vector-length f k s word i l) (lane-ends wide f k s (t .lanes .word) e (t .inside));
+          second = rw (vector-length f k s word j m) (lane-ends wide f k s (t .lanes .word) e (t .inside));
+          left = omega arith;
+          right = omega arith;
+        })
+
+    -- the predicate governs the destination
+    pub governed : (mask old : List ℕ) → mask ≡ predicateOf k (f .g) (s .p) → old ≡ vectorOf k (f .d) (s .z) → Governs w mask old
+    governed mask old p q = rw (t .lanes .width, p, q) (governs f k s word (f .d) (word .fields .d))
+
+    -- the lane's place in the destination, and what stands in the file once its number is there
+    pub placed : InFile k Vector (f .d) (s .z) × (e * w + w ≤ vectorBytes k)
+    placed = (vector-in f k s word (f .d) (word .fields .d), rw (t .lanes .width) (lane-ends wide f k s (t .lanes .word) e (t .inside)))
+
+    pub written : (number : ℕ) → number ≡ residue 64 (integerAfter f k s e)
+        → withNumber (registerAt k Vector (f .d) + e * w) w number (s .z) ≡ laneWritten f k e s
+    written number is = rw (t .lanes .width, is)
+
+  -- what feeds lane e, by family
+  pub pairwise-fed : (mask first old : List ℕ) → WideTurn Pairwise ps w e f k s → mask ≡ predicateOf k (f .g) (s .p) → first ≡ vectorOf k (f .n) (s .z)
+      → old ≡ vectorOf k (f .d) (s .z)
+      → sumOf (record { operand1 = first; operand2 = []; old = old }) (pairwiseTerms (ps .signed) w mask e) ≡ integerAfter f k s e
+  pairwise-fed mask first old t m a b = rw (t .lanes .word .is, t .lanes .parameters, t .lanes .width, m, a, b)
+
+  pub widening-fed : (first second : List ℕ) → WideTurn Widening ps w e f k s → first ≡ vectorOf k (f .n) (s .z) → second ≡ vectorOf k (f .m) (s .z)
+      → sumOf (record { operand1 = first; operand2 = second; old = [] }) (wideningTerms (ps .signed) (ps .top) w e) ≡ integerAfter f k s e
+  widening-fed first second t a b = rw (t .lanes .word .is, t .lanes .parameters, t .lanes .width, a, b)

@@ -1,0 +1,78 @@
+-- `widening_lanes` meets its contract: after e turns the first e lanes of the destination are written and all else is as it was.
+-- Assumes nothing.
+use borrow.Author.Needs.{needs}
+use Prim.Native.Nat.{_-_, _/_, _≤_}
+use mathlib.Core.Path.{_≡_, _∙_}
+use native.Mathlib.Omega.{arith}
+use Rattle.registers.specs.State.{state}
+use Rattle.meaning.proofs.Sizes.{k-most}
+use Rattle.widens.proofs.InPlace.{fileAfter, width-some, few-turns, not-begun, turn-ahead, turn-done, same-size, all-done}
+use Rattle.widens.proofs.widening_lanes.Statement.{statement}
+use Rattle.widens.proofs.widening_lanes.Tie as tie
+
+abbrev Inv-loop : tie.InvT-loop
+Inv-loop parameters w f k z₀ p count e₀ z e = (e ≤ count) × (z ≡ fileAfter f k (state z₀ p) e)
+
+abbrev μ-loop : tie.MeasureT-loop
+μ-loop parameters w f k z₀ p count e₀ z e = count - e
+
+-- where the word stands, before the loop
+abbrev begin : tie.After-register-bytes Inv-loop μ-loop → tie.Start Inv-loop μ-loop
+begin c = c .before .before .before
+
+register-bytes-requires : tie.Need-register-bytes-requires Inv-loop μ-loop
+register-bytes-requires c κs = k-most _ _ _ (c .before .before .pre .word .word)
+
+div-count : tie.Need-div-count Inv-loop μ-loop
+div-count c = width-some _ _ _ _ _ _ _ (begin c .pre) (c .register-bytes .ensures)
+
+loop-holds : tie.Need-loop-holds Inv-loop μ-loop
+loop-holds c = (omega arith, not-begun _ _ _ _ _ _ _ (begin c .pre) (c .register-bytes .ensures))
+
+write-widening-requires : tie.Need-write-widening-requires Inv-loop μ-loop
+write-widening-requires c κs =
+    let l = c .before in
+    let r = l .before .before in
+    turn-ahead _ _ _ _ _ _ _ (begin r .pre) (r .register-bytes .ensures) _ _ (l .before .loop .inv .1) (l .loop-test .taken)
+
+add-e : tie.Need-add-e Inv-loop μ-loop
+add-e c =
+    let l = c .before .before .before .before in
+    let r = l .before .before in
+    omega (arith, l .loop-test .taken, few-turns _ _ _ _ _ _ _ (begin r .pre) (r .register-bytes .ensures))
+
+loop-again : tie.Need-loop-again Inv-loop μ-loop
+loop-again c =
+    let l = c .before .before .before .before in
+    let r = l .before .before in (
+      omega (arith, l .loop-test .taken),
+      c .before .before .write-widening .ensures
+          ∙ turn-done _ _ _ _ _ _ _ (begin r .pre) (r .register-bytes .ensures) _ _ (l .before .loop .inv .1) (l .loop-test .taken),
+    )
+
+same-length : tie.Need-same-length Inv-loop μ-loop
+same-length c =
+    let r = c .before .before in
+    same-size _ _ _ _ _ _ _ (begin r .pre) (r .register-bytes .ensures) _ _ (c .before .loop .inv .1) (c .before .loop .inv .0)
+
+returns : tie.Need-returns Inv-loop μ-loop
+returns c =
+    let r = c .before .before in
+    let end : c .before .loop .e ≡ r .register-bytes .result / begin r .args .w = omega (arith, c .loop-test .left, c .before .loop .inv .0) in
+    all-done _ _ _ _ _ _ _ (begin r .pre) (r .register-bytes .ensures) _ _ (c .before .loop .inv .1) end
+
+pub widening-lanes-spec : {M : Type 1} → statement M
+widening-lanes-spec =
+    tie.close
+    (tie.spec
+    Inv-loop
+    μ-loop
+    register-bytes-requires
+    div-count
+    loop-holds
+    write-widening-requires
+    add-e
+    (λ c. omega arith)
+    loop-again
+    same-length
+    returns)

@@ -1,0 +1,43 @@
+-- `write_widening` meets its contract: both sources hold lane e, its sum is that of what feeds it, and its place lies within the destination.
+-- Assumes nothing.
+use borrow.Author.Needs.{needs}
+use mathlib.Core.Path.{_≡_, sym, _∙_, ap}
+use native.Mathlib.Omega.{arith}
+use Rattle.lanes.specs.Integer.{residue}
+use Rattle.words.specs.declared.WideFamily.the-variants.{Widening}
+use Rattle.meaning.proofs.Sizes.{vector-in, second-most}
+use Rattle.widens.proofs.Fed.{both-hold, placed, written, widening-fed}
+use Rattle.widens.proofs.write_widening.Statement.{statement}
+use Rattle.widens.proofs.write_widening.Tie as tie
+
+-- where the sources are read from
+abbrev begin : tie.After-register → tie.Start
+begin c = c .before .before .before .before
+
+register-requires : tie.Need-register-requires
+register-requires c κs = let h = c .before .before .before .pre .lanes .word .word in vector-in _ _ _ h _ (h .fields .n)
+
+register-requires-2 : tie.Need-register-requires-2
+register-requires-2 c κs = let h = begin c .pre .lanes .word .word in vector-in _ _ _ h _ (second-most _ _ _ h)
+
+widening-lane-requires : tie.Need-widening-lane-requires
+widening-lane-requires c κs =
+    let h = begin (c .before) .pre in
+    let x = h .lanes .word .word in
+    both-hold _ _ _ _ _ _ Widening h _ _ _ _ (x .fields .n) (second-most _ _ _ x) (c .before .register .ensures) (c .register2 .ensures)
+
+write-lane-requires : tie.Need-write-lane-requires
+write-lane-requires c κs = placed _ _ _ _ _ _ Widening (begin (c .before .before .before) .pre)
+
+returns : tie.Need-returns
+returns c =
+    let w = c .before .before in
+    let l = w .before .before in
+    let h = begin (l .before .before) .pre in
+    w .write-lane .ensures
+    ∙ written _ _ _ _ _ _ Widening h _
+    (l .widening-lane .ensures ∙ ap (residue 64) (widening-fed _ _ _ _ _ _ _ _ h (l .before .before .register .ensures) (l .before .register2 .ensures)))
+
+pub write-widening-spec : {M : Type 1} → statement M
+write-widening-spec =
+    tie.close (tie.spec register-requires register-requires-2 widening-lane-requires write-lane-requires (λ c. search needs) returns)

@@ -1,0 +1,169 @@
+// The families that write every lane: pairwise accumulates and widening adds.
+use registers::Kind;
+use words::Fields;
+use words::Parameters;
+use words::WideFamily;
+ghost use mathlib.Core.Path.{_≡_};
+ghost use mathlib.Core.List.{[], _∷_};
+ghost use Prim.Native.Nat.{_+_, _*_, _/_, _≤_};
+ghost use Rattle.machine.specs.Size.{vectorBytes};
+ghost use Rattle.parts.specs.Number.{withNumber};
+ghost use Rattle.registers.specs.Register.{registerAt, InFile};
+ghost use Rattle.registers.specs.declared.Kind.the-variants.{Vector};
+ghost use Rattle.registers.specs.State.{state};
+ghost use Rattle.lanes.specs.Integer.{residue};
+ghost use Rattle.lanes.specs.Sum.{element, total};
+ghost use Rattle.words.specs.Table.{formOf};
+ghost use Rattle.words.specs.declared.Family.the-variants.{Wide};
+ghost use Rattle.words.specs.declared.WideFamily.the-variants.{Pairwise, Widening};
+ghost use Rattle.sums.specs.Sums.{Governs};
+ghost use Rattle.meaning.specs.Terms.{sumOf, pairwiseTerms, wideningTerms};
+ghost use Rattle.meaning.specs.Execute.{laneWritten, executed};
+ghost use Rattle.meaning.specs.Needs.{ExecutableAs};
+ghost use Rattle.widens.specs.Needs.{ElementIn, HalfLanes, WideLanes, WideTurn};
+
+// The integer that element e of w bytes stands for, at 64 bits.
+fn element_at(operand: &[u8], w: usize, signed: bool, e: usize) -> u64
+    requires { ⌜ ElementIn w e (now operand) ⌝ }
+    ensures { λ r. ⌜ r ≡ residue 64 (element signed w (now (operand .entry)) e) ⌝ }
+{
+    lanes::extend(lanes::lane(operand, w, e), w, signed)
+}
+
+// The sum of half element 2e + i of one register and half element 2e + j of another, at 64 bits.
+fn half_sum(a: &[u8], b: &[u8], w: usize, signed: bool, e: usize, i: usize, j: usize) -> u64
+    requires { ⌜ HalfLanes w e i j (now a) (now b) ⌝ }
+    ensures { λ r. ⌜ r ≡ residue 64 (total (element signed (w / 2) (now (a .entry)) (2 * e + i) ∷ element signed (w / 2) (now (b .entry)) (2 * e + j) ∷ [])) ⌝ }
+{
+    let first = element_at(a, w / 2, signed, 2 * e + i);
+    let second = element_at(b, w / 2, signed, 2 * e + j);
+    std::num::wrapping_add_u64(first, second)
+}
+
+// Lane e of a pairwise accumulate: the old lane with both half elements of the source, if it is active.
+fn pairwise_lane(p: &[u8], n: &[u8], d: &[u8], w: usize, signed: bool, e: usize) -> u64
+    requires { ⌜ HalfLanes w e 0 1 (now n) (now d) × Governs w (now p) (now d) ⌝ }
+    ensures { λ r. ⌜ r ≡ residue 64 (sumOf (record { operand1 = now (n .entry); operand2 = []; old = now (d .entry) }) (pairwiseTerms signed w (now (p .entry)) e)) ⌝ }
+{
+    let old = lanes::lane(d, w, e);
+    if !lanes::is_active(p, w, e) {
+        return old;
+    }
+    let gained = half_sum(n, n, w, signed, e, 0, 1);
+    std::num::wrapping_add_u64(old, gained)
+}
+
+// Lane e of a widening add: the bottom half element of each source, or the top one.
+fn widening_lane(n: &[u8], m: &[u8], w: usize, signed: bool, top: bool, e: usize) -> u64
+    requires { ⌜ HalfLanes w e 0 1 (now n) (now m) ⌝ }
+    ensures { λ r. ⌜ r ≡ residue 64 (sumOf (record { operand1 = now (n .entry); operand2 = now (m .entry); old = [] }) (wideningTerms signed top w e)) ⌝ }
+{
+    if top {
+        half_sum(n, m, w, signed, e, 1, 1)
+    } else {
+        half_sum(n, m, w, signed, e, 0, 0)
+    }
+}
+
+// Writes a number's low bytes to lane e of a register: they are lent on from the middle of the vector file, and only they are written.
+fn write_lane(k: usize, z: &mut [u8], d: usize, w: usize, e: usize, number: u64)
+    requires { ⌜ InFile k Vector d (now z) × (e * w + w ≤ vectorBytes k) ⌝ }
+    ensures { λ _. ⌜ now (z .exit) ≡ withNumber (registerAt k Vector d + e * w) w number (now (z .entry)) ⌝ }
+{
+    let at = registers::register_at(k, Kind::Vector, d) + e * w;
+    let end = at + w;
+    parts::put_number(&mut z[at..end], 0, w, number);
+}
+
+// Writes lane e of a pairwise accumulate, from the registers as they stand.
+fn write_pairwise(
+    parameters: Parameters,
+    w: usize,
+    f: Fields,
+    k: usize,
+    z: &mut [u8],
+    p: &[u8],
+    e: usize,
+)
+    requires { ⌜ WideTurn Pairwise parameters w e f k (state (now z) (now p)) ⌝ }
+    ensures { λ _. ⌜ now (z .exit) ≡ laneWritten f k e (state (now (z .entry)) (now (p .entry))) ⌝ }
+{
+    let mask = registers::register(k, Kind::Predicate, p, f.g);
+    let first = registers::register(k, Kind::Vector, z, f.n);
+    let old = registers::register(k, Kind::Vector, z, f.d);
+    let number = pairwise_lane(mask, first, old, w, parameters.signed, e);
+    write_lane(k, z, f.d, w, e, number);
+}
+
+// Writes lane e of a widening add, from the registers as they stand.
+fn write_widening(
+    parameters: Parameters,
+    w: usize,
+    f: Fields,
+    k: usize,
+    z: &mut [u8],
+    p: &[u8],
+    e: usize,
+)
+    requires { ⌜ WideTurn Widening parameters w e f k (state (now z) (now p)) ⌝ }
+    ensures { λ _. ⌜ now (z .exit) ≡ laneWritten f k e (state (now (z .entry)) (now (p .entry))) ⌝ }
+{
+    let first = registers::register(k, Kind::Vector, z, f.n);
+    let second = registers::register(k, Kind::Vector, z, f.m);
+    let number = widening_lane(first, second, w, parameters.signed, parameters.top, e);
+    write_lane(k, z, f.d, w, e, number);
+}
+
+// Writes every lane of a pairwise accumulate in place: what a lane is made of lies in the same lane of each register, so no lane that is
+// written is read again.
+fn pairwise_lanes(parameters: Parameters, w: usize, f: Fields, k: usize, z: &mut [u8], p: &[u8])
+    requires { ⌜ WideLanes Pairwise parameters w f k (state (now z) (now p)) ⌝ }
+    ensures { λ _. ⌜ now (z .exit) ≡ executed f k (state (now (z .entry)) (now (p .entry))) .z ⌝ }
+{
+    let count = registers::register_bytes(k, Kind::Vector) / w;
+    let mut e = 0;
+    while e < count {
+        write_pairwise(parameters, w, f, k, z, p, e);
+        e += 1;
+    }
+}
+
+// Writes every lane of a widening add in place, as above.
+fn widening_lanes(parameters: Parameters, w: usize, f: Fields, k: usize, z: &mut [u8], p: &[u8])
+    requires { ⌜ WideLanes Widening parameters w f k (state (now z) (now p)) ⌝ }
+    ensures { λ _. ⌜ now (z .exit) ≡ executed f k (state (now (z .entry)) (now (p .entry))) .z ⌝ }
+{
+    let count = registers::register_bytes(k, Kind::Vector) / w;
+    let mut e = 0;
+    while e < count {
+        write_widening(parameters, w, f, k, z, p, e);
+        e += 1;
+    }
+}
+
+// Executes a word of such a family. The three widths are told apart, so that the loop over each is code of its own.
+pub fn write_lanes(
+    wide: WideFamily,
+    parameters: Parameters,
+    f: Fields,
+    k: usize,
+    z: &mut [u8],
+    p: &[u8],
+)
+    requires { ⌜ ExecutableAs (Wide wide) f k (state (now z) (now p)) × (parameters ≡ formOf (f .row) .parameters) ⌝ }
+    ensures { λ _. ⌜ now (z .exit) ≡ executed f k (state (now (z .entry)) (now (p .entry))) .z ⌝ }
+{
+    let w = lanes::width_of(f.size);
+    match wide {
+        WideFamily::Pairwise => match w {
+            2 => pairwise_lanes(parameters, 2, f, k, z, p),
+            4 => pairwise_lanes(parameters, 4, f, k, z, p),
+            _ => pairwise_lanes(parameters, 8, f, k, z, p),
+        },
+        WideFamily::Widening => match w {
+            2 => widening_lanes(parameters, 2, f, k, z, p),
+            4 => widening_lanes(parameters, 4, f, k, z, p),
+            _ => widening_lanes(parameters, 8, f, k, z, p),
+        },
+    }
+}
