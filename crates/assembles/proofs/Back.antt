@@ -10,9 +10,9 @@ use lib.ListN.{length, length-append}
 use lib.Seq.{take-append-le}
 use borrow.Author.Tests.{eqb-true, leb-true}
 use Rattle.parts.specs.Part.{both}
+use Rattle.parts.specs.Text.{bytes}
 use Rattle.parts.proofs.Same.{both-left, both-right}
 use Rattle.machine.specs.Size.{sizes}
-use Rattle.words.specs.Text.{bytes}
 use Rattle.words.specs.Table.{nameBytes, rows, rowAt, familyOf, allowsFamily}
 use Rattle.words.specs.Field.{registerDigits, governingDigits, secondDigits, qDigits}
 use Rattle.words.specs.Encode.{InRange}

@@ -8,7 +8,7 @@ use native.Mathlib.Nat.{mod-lt}
 use native.Mathlib.Omega.{arith}
 use lib.Dec.{eqb}
 use lib.Seq.{append-snoc}
-use Rattle.words.specs.Text.{bytes}
+use Rattle.parts.specs.Text.{bytes}
 use Rattle.words.specs.Table.{rows, rowAt}
 use Rattle.words.proofs.Every.{every, at-each}
 use Rattle.names.specs.declared.Suffix.{Suffix}

@@ -4,8 +4,8 @@
 use mathlib.Core.Path.{_≡_, refl}
 use mathlib.Core.List.{[], _∷_, map}
 use Prim.Native.Nat.{_-_, _^_}
+use Rattle.parts.specs.Text.{bytes}
 use Rattle.words.specs.Digits.{digitsAnd}
-use Rattle.words.specs.Text.{bytes}
 use Rattle.words.specs.Table.{rowAt, rowOf, matches, placeFrom}
 use Rattle.words.specs.Decode.{decoded}
 use Rattle.names.specs.Digits.{digitOf, digitsIn, mostDigits, widthWithin, decimalWidth, decimal}

@@ -9,8 +9,8 @@ use native.Mathlib.Omega.{arith}
 use lib.Dec.{ltb}
 use lib.ListN.{length, length-append}
 use borrow.Author.Tests.{ltb-true}
+use Rattle.parts.specs.Text.{bytes}
 use Rattle.machine.specs.Size.{sizes}
-use Rattle.words.specs.Text.{bytes}
 use Rattle.words.specs.Digits.{digitsAnd}
 use Rattle.words.specs.Table.{rowAt, rowOf, familyOf, matches, placeFrom}
 use Rattle.words.specs.Field.{registerDigits, governingDigits, secondDigits, qDigits}

@@ -7,7 +7,7 @@ use mathlib.Core.List.{List, [], _∷_, _++_, map}
 use lib.Dec.{eqb}
 use lib.ListN.{getD, take, length}
 use Rattle.parts.specs.Part.{sameBytes}
-use Rattle.words.specs.Text.{bytes}
+use Rattle.parts.specs.Text.{bytes}
 use Rattle.words.specs.Table.{nameBytes, table, rowAt, familyOf}
 use Rattle.words.specs.Field.{governingDigits, secondDigits}
 use Rattle.words.specs.declared.Row.{Row}
