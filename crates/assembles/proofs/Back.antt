@@ -22,12 +22,12 @@ use Rattle.words.specs.declared.LowFamily.the-variants.{Reduction, Segment, Lon
 use Rattle.words.specs.declared.WideFamily.the-variants.{Pairwise, Widening}
 use Rattle.words.specs.declared.Fields.{Fields}
 use Rattle.words.proofs.Every.{every, at-each}
+use Rattle.digits.specs.Digits.{decimal}
+use Rattle.digits.proofs.Decimals.{decimal-least}
 use Rattle.names.specs.declared.Suffix.{Suffix}
 use Rattle.names.specs.declared.Suffix.the-variants.{Lane}
 use Rattle.names.specs.declared.Operand.{Operand}
-use Rattle.names.specs.Digits.{decimal}
 use Rattle.names.specs.Text.{keyOf, nameOf, keyFrom, rowNamed, letters, letterOf, lanesOf, suffixText, listed, destinationOperand, governingOperand, sourceOperand, operandsNamed, textOf}
-use Rattle.names.proofs.Decimals.{decimal-least}
 use Rattle.assembles.specs.Reading.{pastSpace, numberIn, fromEnd, placeOf, sizeIn, firstIn, secondIn, thirdIn, fields, readAs, fieldsFrom}
 use Rattle.assembles.proofs.Free.{free-letter, past-operand, past-name}
 use Rattle.assembles.proofs.Numbers.{listed-number}

@@ -14,7 +14,7 @@ use Rattle.registers.specs.State.{State}
 use Rattle.programs.specs.Word.{wordAt, placeTests, wordFound}
 use Rattle.programs.specs.declared.Next.{Next}
 use Rattle.words.specs.Decode.{decoded, wordTests, fieldsOf}
-use Rattle.names.specs.Digits.{digitsIn, decimal, decimalWidth}
+use Rattle.digits.specs.Digits.{digitsIn, decimal, decimalWidth}
 use Rattle.names.specs.Named.{textOfWord, mostText}
 
 -- the base of hex, and the hex digits of a byte and of a word

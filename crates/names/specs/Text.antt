@@ -15,7 +15,7 @@ use Rattle.words.specs.declared.Family.{Family}
 use Rattle.words.specs.declared.Family.the-variants.{Low, Wide}
 use Rattle.words.specs.declared.LowFamily.the-variants.{Reduction, Segment, Long}
 use Rattle.words.specs.declared.Fields.{Fields}
-use Rattle.names.specs.Digits.{decimal}
+use Rattle.digits.specs.Digits.{decimal}
 use Rattle.names.specs.declared.Suffix.{Suffix}
 use Rattle.names.specs.declared.Suffix.the-variants.{Plain, Lane, Lanes, Merging}
 use Rattle.names.specs.declared.Operand.{Operand}
