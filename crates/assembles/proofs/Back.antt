@@ -10,9 +10,9 @@ use lib.ListN.{length, length-append}
 use lib.Seq.{take-append-le}
 use borrow.Author.Tests.{eqb-true, leb-true}
 use Rattle.parts.specs.Part.{both}
+use Rattle.parts.specs.Text.{bytes}
 use Rattle.parts.proofs.Same.{both-left, both-right}
 use Rattle.machine.specs.Size.{sizes}
-use Rattle.words.specs.Text.{bytes}
 use Rattle.words.specs.Table.{nameBytes, rows, rowAt, familyOf, allowsFamily}
 use Rattle.words.specs.Field.{registerDigits, governingDigits, secondDigits, qDigits}
 use Rattle.words.specs.Encode.{InRange}
@@ -22,12 +22,12 @@ use Rattle.words.specs.declared.LowFamily.the-variants.{Reduction, Segment, Lon
 use Rattle.words.specs.declared.WideFamily.the-variants.{Pairwise, Widening}
 use Rattle.words.specs.declared.Fields.{Fields}
 use Rattle.words.proofs.Every.{every, at-each}
+use Rattle.digits.specs.Digits.{decimal}
+use Rattle.digits.proofs.Decimals.{decimal-least}
 use Rattle.names.specs.declared.Suffix.{Suffix}
 use Rattle.names.specs.declared.Suffix.the-variants.{Lane}
 use Rattle.names.specs.declared.Operand.{Operand}
-use Rattle.names.specs.Digits.{decimal}
 use Rattle.names.specs.Text.{keyOf, nameOf, keyFrom, rowNamed, letters, letterOf, lanesOf, suffixText, listed, destinationOperand, governingOperand, sourceOperand, operandsNamed, textOf}
-use Rattle.names.proofs.Decimals.{decimal-least}
 use Rattle.assembles.specs.Reading.{pastSpace, numberIn, fromEnd, placeOf, sizeIn, firstIn, secondIn, thirdIn, fields, readAs, fieldsFrom}
 use Rattle.assembles.proofs.Free.{free-letter, past-operand, past-name}
 use Rattle.assembles.proofs.Numbers.{listed-number}

@@ -11,11 +11,11 @@ use lib.Seq.{getD-append-add}
 use borrow.Author.Tests.{le-leb, eqb-true}
 use Rattle.machine.specs.Size.{sizes}
 use Rattle.words.proofs.Every.{every, at-each}
+use Rattle.digits.specs.Digits.{digitOf, digitsIn, decimalWidth, decimal}
+use Rattle.digits.proofs.Decimals.{digits-length, decimal-least}
 use Rattle.names.specs.declared.Suffix.the-variants.{Lane, Lanes}
 use Rattle.names.specs.declared.Operand.{Operand}
-use Rattle.names.specs.Digits.{digitOf, digitsIn, decimalWidth, decimal}
 use Rattle.names.specs.Text.{letters, letterOf, lanesOf, suffixText, operandText, listed}
-use Rattle.names.proofs.Decimals.{digits-length, decimal-least}
 use Rattle.assembles.specs.Reading.{fromEnd, placeOf, fullDigits}
 
 -- the end of two lists is that of the second

@@ -8,13 +8,13 @@ use native.Mathlib.Nat.{mod-lt}
 use native.Mathlib.Omega.{arith}
 use lib.Dec.{eqb}
 use lib.Seq.{append-snoc}
-use Rattle.words.specs.Text.{bytes}
+use Rattle.parts.specs.Text.{bytes}
 use Rattle.words.specs.Table.{rows, rowAt}
 use Rattle.words.proofs.Every.{every, at-each}
+use Rattle.digits.specs.Digits.{digitOf, digitsIn, decimalWidth, decimal}
 use Rattle.names.specs.declared.Suffix.{Suffix}
 use Rattle.names.specs.declared.Suffix.the-variants.{Plain, Lane, Lanes, Merging}
 use Rattle.names.specs.declared.Operand.{Operand}
-use Rattle.names.specs.Digits.{digitOf, digitsIn, decimalWidth, decimal}
 use Rattle.names.specs.Text.{keyOf, nameOf, letterOf, suffixText, operandText, listed}
 use Rattle.assembles.specs.Reading.{pastSpace}
 

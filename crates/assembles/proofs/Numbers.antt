@@ -12,12 +12,12 @@ use borrow.Author.Tests.{eqb-true}
 use Rattle.parts.specs.Part.{both}
 use Rattle.parts.proofs.Same.{both-left, both-right}
 use Rattle.words.proofs.Every.{every, at-each}
+use Rattle.digits.specs.Digits.{digitOf, decimalWidth, decimal}
+use Rattle.digits.proofs.Decimals.{width-least, width-below, decimal-holds, decimal-one, decimal-two}
 use Rattle.names.specs.declared.Suffix.{Suffix}
 use Rattle.names.specs.declared.Suffix.the-variants.{Plain, Lane, Lanes, Merging}
 use Rattle.names.specs.declared.Operand.{Operand}
-use Rattle.names.specs.Digits.{digitOf, decimalWidth, decimal}
 use Rattle.names.specs.Text.{suffixText, following, listed}
-use Rattle.names.proofs.Decimals.{width-least, width-below, decimal-holds, decimal-one, decimal-two}
 use Rattle.assembles.specs.Reading.{worth, isDigit, numberIn}
 
 -- a digit is one, and is worth its value

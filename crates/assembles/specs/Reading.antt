@@ -8,8 +8,8 @@ use mathlib.Core.List.{List, [], _∷_}
 use lib.Dec.{eqb, leb}
 use lib.ListN.{length, getD, drop}
 use Rattle.parts.specs.Part.{both}
+use Rattle.parts.specs.Text.{bytes}
 use Rattle.words.specs.Digits.{wordDigits}
-use Rattle.words.specs.Text.{bytes}
 use Rattle.words.specs.Table.{familyOf}
 use Rattle.words.specs.Field.{sizeDigits, registerDigits, predicateDigits}
 use Rattle.words.specs.Encode.{encoded}

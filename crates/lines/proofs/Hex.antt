@@ -6,8 +6,8 @@ use Prim.Native.Nat.{ℕ, zero, suc, _+_, _-_, _*_, _≤_, _<_}
 use native.Mathlib.Omega.{arith}
 use lib.ListN.{length, length-append, drop, getD}
 use lib.Seq.{drop-cons}
-use Rattle.names.specs.Digits.{digitsIn}
-use Rattle.names.proofs.Decimals.{digits-length}
+use Rattle.digits.specs.Digits.{digitsIn}
+use Rattle.digits.proofs.Decimals.{digits-length}
 use Rattle.lines.specs.Line.{sixteen, byteHexDigits, hexOf}
 
 pub hex-length : (l : List ℕ) → length (hexOf l) ≡ byteHexDigits * length l

@@ -18,7 +18,8 @@ use Rattle.registers.specs.State.{State}
 use Rattle.words.specs.Decode.{decoded, wordTests}
 use Rattle.words.specs.declared.Decoded.{Decoded}
 use Rattle.words.specs.declared.Decoded.the-variants.{Unknown, Undefined, Word}
-use Rattle.names.specs.Named.{leastOut, textOfDecoded, textOfWord, nameRefused, Named, Put}
+use Rattle.digits.specs.Put.{Put}
+use Rattle.names.specs.Named.{leastOut, textOfDecoded, textOfWord, nameRefused, Named}
 use Rattle.names.proofs.Pieces.{word-length}
 use Rattle.parts.specs.Part.{laid}
 use Rattle.lines.specs.Line.{withNewline, lineTests, lineRefused, Written}

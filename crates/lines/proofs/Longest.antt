@@ -13,9 +13,9 @@ use Rattle.registers.specs.Register.{registerAt, vectorOf}
 use Rattle.registers.specs.State.{State}
 use Rattle.programs.specs.Word.{wordAt}
 use Rattle.words.specs.Decode.{decoded, fieldsOf}
-use Rattle.names.specs.Digits.{decimalWidth}
+use Rattle.digits.specs.Digits.{decimalWidth}
+use Rattle.digits.proofs.Decimals.{digits-length, width-most, width-grows}
 use Rattle.names.specs.Named.{leastOut}
-use Rattle.names.proofs.Decimals.{digits-length, width-most, width-grows}
 use Rattle.names.proofs.Pieces.{word-length}
 use Rattle.lines.specs.Line.{lead, refusedLine, acceptedLine, stepLine, lineBytes, mostLine}
 use Rattle.lines.proofs.Hex.{hex-length}

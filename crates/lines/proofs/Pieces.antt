@@ -8,7 +8,7 @@ use native.Mathlib.Omega.{arith}
 use lib.ListN.{length, take, drop, length-drop}
 use lib.Seq.{sets-eq, take-all, drop-drop, drop-length}
 use borrow.Rule.Slice.PartMut.{midOf, putMid, post-is}
-use Rattle.names.specs.Named.{Put}
+use Rattle.digits.specs.Put.{Put}
 
 module _ (at : ℕ) (l : List ℕ) (h : at ≤ length l) where
   -- the part from a place on, and what lies after it

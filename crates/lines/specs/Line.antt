@@ -5,6 +5,7 @@ use mathlib.Core.List.{List, [], _∷_, _++_}
 use lib.Dec.{eqb, ltb}
 use lib.ListN.{length}
 use Rattle.parts.specs.Part.{laid}
+use Rattle.parts.specs.Text.{bytes}
 use Rattle.machine.specs.Size.{mostLength, mostWords, vectorBytes}
 use Rattle.machine.specs.Refusal.{DONE, SESSION, Test, outTest, filesTests, onlyWhere, refused, unlessRefused, answer}
 use Rattle.machine.specs.declared.Answer.{Answer}
@@ -13,8 +14,7 @@ use Rattle.registers.specs.State.{State}
 use Rattle.programs.specs.Word.{wordAt, placeTests, wordFound}
 use Rattle.programs.specs.declared.Next.{Next}
 use Rattle.words.specs.Decode.{decoded, wordTests, fieldsOf}
-use Rattle.words.specs.Text.{bytes}
-use Rattle.names.specs.Digits.{digitsIn, decimal, decimalWidth}
+use Rattle.digits.specs.Digits.{digitsIn, decimal, decimalWidth}
 use Rattle.names.specs.Named.{textOfWord, mostText}
 
 -- the base of hex, and the hex digits of a byte and of a word

@@ -2,7 +2,6 @@
 use machine::Answer;
 use machine::Length;
 use machine::refusal;
-use names::digits;
 use programs::Next;
 use registers::Kind;
 use words::Decoded;
@@ -12,8 +11,9 @@ ghost use Prim.Native.Nat.{_+_, _≤_};
 ghost use lib.ListN.{length};
 ghost use Rattle.machine.specs.Refusal.{DONE};
 ghost use Rattle.registers.specs.State.{state};
-ghost use Rattle.names.specs.Digits.{digitsIn, decimal};
-ghost use Rattle.names.specs.Named.{leastOut, textOfWord, Put};
+ghost use Rattle.digits.specs.Digits.{digitsIn, decimal};
+ghost use Rattle.digits.specs.Put.{Put};
+ghost use Rattle.names.specs.Named.{leastOut, textOfWord};
 ghost use Rattle.lines.specs.Line.{sixteen, wordHexDigits, hexOf, withSpace, withNewline, lead, refusedLine, acceptedLine, askedWord, LineWritten, SessionLineWritten};
 
 // The base of hex, and the hex digits of a byte and of a word.

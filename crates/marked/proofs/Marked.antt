@@ -5,7 +5,7 @@ use mathlib.Core.List.{map}
 use Rattle.words.specs.Digits.{digitsAnd}
 use Rattle.words.specs.Table.{rowAt, matches, placeFrom, rowOf}
 use Rattle.words.specs.Decode.{decoded}
-use Rattle.names.specs.Digits.{digitOf, digitsIn, widthWithin, decimalWidth}
+use Rattle.digits.specs.Digits.{digitOf, digitsIn, widthWithin, decimalWidth}
 use Rattle.names.specs.Text.{keyOf, nameOf, letterOf, textOf}
 use Rattle.marked.specs.Cases.{cases, outcome, expected}
 

@@ -9,9 +9,10 @@ use Rattle.registers.specs.State.{state, read}
 use Rattle.registers.specs.declared.Kind.the-variants.{Vector}
 use Rattle.machine.specs.Refusal.{DONE, UNDEFINED, unlessRefused}
 use Rattle.parts.specs.Number.{number, bytesOf}
+use Rattle.parts.specs.Text.{bytes}
 use Rattle.words.specs.Decode.{decoded, numberOf, fieldsOf}
 use Rattle.meaning.specs.Execute.{executed}
-use Rattle.words.specs.Text.{bytes}
+use Rattle.parts.specs.Text.{bytes}
 use Rattle.names.specs.Named.{textOfWord}
 
 -- what a register holds: its number and its first bytes

@@ -1,14 +1,12 @@
 -- The texts of document 01's session and of M12, and one of each form beside them, computed. A word that is refused has none.
--- Then decimal numbers, on both sides of where a digit more is needed, up to the greatest of 64 bits.
 -- Assumes nothing.
 use mathlib.Core.Path.{_≡_, refl}
 use mathlib.Core.List.{[], _∷_, map}
-use Prim.Native.Nat.{_-_, _^_}
+use Rattle.parts.specs.Text.{bytes}
 use Rattle.words.specs.Digits.{digitsAnd}
-use Rattle.words.specs.Text.{bytes}
 use Rattle.words.specs.Table.{rowAt, rowOf, matches, placeFrom}
 use Rattle.words.specs.Decode.{decoded}
-use Rattle.names.specs.Digits.{digitOf, digitsIn, mostDigits, widthWithin, decimalWidth, decimal}
+use Rattle.digits.specs.Digits.{digitOf, digitsIn, widthWithin, decimalWidth}
 use Rattle.names.specs.Text.{keyOf, nameOf, letterOf, textOf}
 use Rattle.names.specs.Named.{textOfWord}
 
@@ -35,21 +33,3 @@ pub example-texts : map textOfWord
     ∷ []
 unfolding decoded rowAt rowOf placeFrom matches digitsAnd textOf keyOf nameOf digitOf digitsIn widthWithin decimalWidth letterOf
 example-texts = refl
-
-pub example-decimals : map decimal (0 ∷ 9 ∷ 10 ∷ 99 ∷ 100 ∷ 65535 ∷ 65536 ∷ (2 ^ 64 - 1) ∷ [])
-    ≡ bytes "0"
-    ∷ bytes "9"
-    ∷ bytes "10"
-    ∷ bytes "99"
-    ∷ bytes "100"
-    ∷ bytes "65535"
-    ∷ bytes "65536"
-    ∷ bytes "18446744073709551615"
-    ∷ []
-unfolding digitOf digitsIn widthWithin decimalWidth
-example-decimals = refl
-
--- the longest is as long as is said
-pub example-longest : decimalWidth (2 ^ 64 - 1) ≡ mostDigits
-unfolding widthWithin decimalWidth
-example-longest = refl

@@ -11,8 +11,8 @@ use lib.ListN.{length, getD, take, drop, length-take, List·getD-map}
 use lib.Seq.{drop-cons}
 use borrow.Author.Tests.{eqb-true, leb-true, eq-eqb, ne-eqb}
 use Rattle.parts.specs.Part.{both, sameBytes}
+use Rattle.parts.specs.Text.{bytes}
 use Rattle.parts.proofs.Same.{both-left, both-right, same-true, same-not}
-use Rattle.words.specs.Text.{bytes}
 use Rattle.words.specs.Table.{nameBytes, rows, rowAt, table, noRow}
 use Rattle.words.specs.declared.Row.{Row}
 use Rattle.words.proofs.Every.{every, at-each}

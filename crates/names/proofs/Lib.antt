@@ -1,5 +1,3 @@
-pub mod Puts
-pub mod Decimals
 pub mod Keys
 pub mod Pieces
 pub mod Naming

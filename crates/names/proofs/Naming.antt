@@ -19,8 +19,9 @@ use Rattle.words.specs.Decode.{decoded, numberOf, wordTests}
 use Rattle.words.specs.declared.Fields.{Fields}
 use Rattle.words.specs.declared.Decoded.{Decoded}
 use Rattle.words.specs.declared.Decoded.the-variants.{Unknown, Undefined, Word}
+use Rattle.digits.specs.Put.{Put}
 use Rattle.names.specs.Text.{textOf}
-use Rattle.names.specs.Named.{leastOut, textOfWord, nameTests, nameRefused, refusedWith, Named, Put, mostText}
+use Rattle.names.specs.Named.{leastOut, textOfWord, nameTests, nameRefused, refusedWith, Named, mostText}
 use Rattle.names.proofs.Pieces.{word-length}
 
 -- two results that the contract of `text` allows are the same

@@ -9,8 +9,8 @@ use native.Mathlib.Omega.{arith}
 use lib.Dec.{ltb}
 use lib.ListN.{length, length-append}
 use borrow.Author.Tests.{ltb-true}
+use Rattle.parts.specs.Text.{bytes}
 use Rattle.machine.specs.Size.{sizes}
-use Rattle.words.specs.Text.{bytes}
 use Rattle.words.specs.Digits.{digitsAnd}
 use Rattle.words.specs.Table.{rowAt, rowOf, familyOf, matches, placeFrom}
 use Rattle.words.specs.Field.{registerDigits, governingDigits, secondDigits, qDigits}
@@ -26,13 +26,13 @@ use Rattle.words.specs.declared.Decoded.the-variants.{Unknown, Undefined, Word}
 use Rattle.words.proofs.Decoding.{governing-below, second-below, q-below}
 use Rattle.words.proofs.Encoding.{decoded-in-range}
 use Rattle.words.proofs.Every.{every, at-each}
+use Rattle.digits.specs.Digits.{digitOf, digitsIn, widthWithin, decimalWidth, decimal}
+use Rattle.digits.proofs.Puts.{room-first}
+use Rattle.digits.proofs.Decimals.{decimal-short}
 use Rattle.names.specs.declared.Operand.{Operand}
-use Rattle.names.specs.Digits.{digitOf, digitsIn, widthWithin, decimalWidth, decimal}
 use Rattle.names.specs.Text.{keyOf, nameOf, letterOf, lanesOf, operandText, whereIn, further, following, listed, destinationOperand, governingOperand, sourceOperand, operandsNamed, textOf}
 use Rattle.names.specs.Named.{leastOut, mostText, textOfDecoded, textOfWord}
-use Rattle.names.proofs.Puts.{room-first}
 use Rattle.names.proofs.Keys.{row-good}
-use Rattle.names.proofs.Decimals.{decimal-short}
 
 -- the text as it is written: the name with its space, the destination and the further operands
 abbrev pub front : Fields → Operand → List ℕ

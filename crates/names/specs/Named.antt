@@ -1,10 +1,9 @@
 -- What naming a word answers, and what it leaves in the output.
 use mathlib.Core.Path.{_≡_}
-use Prim.Native.Nat.{ℕ, _+_}
+use Prim.Native.Nat.{ℕ}
 use mathlib.Core.List.{List, [], _∷_}
 use lib.Dec.{ltb}
 use lib.ListN.{length}
-use lib.Seq.{sets}
 use Rattle.parts.specs.Part.{laid}
 use Rattle.machine.specs.Refusal.{Test, outTest, refused, unlessRefused, answer}
 use Rattle.machine.specs.declared.Answer.{Answer}
@@ -50,8 +49,3 @@ refusedWith n = record { number = n; value = 0 }
 pub record Named (word : ℕ) (old new : List ℕ) (r : Answer) : Type 0 where
   pub answered : r ≡ answer (nameRefused (length old) word) (length (textOfWord word))
   pub bytes : new ≡ laid (nameWritten (length old) word) old
-
--- a piece written at a place, and the place after it
-pub record Put (old : List ℕ) (at : ℕ) (piece new : List ℕ) (next : ℕ) : Type 0 where
-  pub bytes : new ≡ sets old at piece
-  pub after : next ≡ at + length piece

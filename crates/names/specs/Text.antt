@@ -7,7 +7,7 @@ use mathlib.Core.List.{List, [], _∷_, _++_, map}
 use lib.Dec.{eqb}
 use lib.ListN.{getD, take, length}
 use Rattle.parts.specs.Part.{sameBytes}
-use Rattle.words.specs.Text.{bytes}
+use Rattle.parts.specs.Text.{bytes}
 use Rattle.words.specs.Table.{nameBytes, table, rowAt, familyOf}
 use Rattle.words.specs.Field.{governingDigits, secondDigits}
 use Rattle.words.specs.declared.Row.{Row}
@@ -15,7 +15,7 @@ use Rattle.words.specs.declared.Family.{Family}
 use Rattle.words.specs.declared.Family.the-variants.{Low, Wide}
 use Rattle.words.specs.declared.LowFamily.the-variants.{Reduction, Segment, Long}
 use Rattle.words.specs.declared.Fields.{Fields}
-use Rattle.names.specs.Digits.{decimal}
+use Rattle.digits.specs.Digits.{decimal}
 use Rattle.names.specs.declared.Suffix.{Suffix}
 use Rattle.names.specs.declared.Suffix.the-variants.{Plain, Lane, Lanes, Merging}
 use Rattle.names.specs.declared.Operand.{Operand}

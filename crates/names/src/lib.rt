@@ -1,5 +1,4 @@
 // A word's text: its name and its operands, written into what the caller lends.
-pub mod digits;
 mod row;
 
 use digits::put;
@@ -18,12 +17,13 @@ ghost use mathlib.Core.Path.{_≡_};
 ghost use mathlib.Core.List.{_++_};
 ghost use Prim.Native.Nat.{_+_, _-_, _≤_, _<_};
 ghost use lib.ListN.{length};
+ghost use Rattle.parts.specs.Text.{bytes};
 ghost use Rattle.machine.specs.Size.{sizes};
-ghost use Rattle.words.specs.Text.{bytes};
 ghost use Rattle.words.specs.Table.{rows};
 ghost use Rattle.words.specs.Encode.{InRange};
+ghost use Rattle.digits.specs.Put.{Put};
 ghost use Rattle.names.specs.Text.{nameOf, letterOf, lanesOf, suffixText, operand, operandText, further, destinationOperand, governingOperand, sourceOperand, textOf};
-ghost use Rattle.names.specs.Named.{leastOut, Put, refusedWith, Named};
+ghost use Rattle.names.specs.Named.{leastOut, refusedWith, Named};
 
 // What follows a register's number: nothing, the lanes' size, their count and size, or that inactive lanes merge.
 pub enum Suffix {

@@ -1,2 +1,3 @@
 pub mod Part
 pub mod Number
+pub mod Text

@@ -17,8 +17,8 @@ use Rattle.machine.specs.Refusal.{DONE, OUT, inOrder, First, refused, unlessRef
 use Rattle.machine.specs.declared.Answer.{Answer}
 use Rattle.machine.proofs.Tests.{first-exactly, unless-refused}
 use Rattle.registers.specs.State.{State}
-use Rattle.names.specs.Digits.{digitsIn, widthWithin, decimalWidth}
-use Rattle.names.proofs.Puts.{put-length}
+use Rattle.digits.specs.Digits.{digitsIn, widthWithin, decimalWidth}
+use Rattle.digits.proofs.Puts.{put-length}
 use Rattle.entries.specs.Layout.{mostJournal, entryBytes, heldOf}
 use Rattle.journal.specs.Calls.{freshAfter, fieldsNow, entryFor, stepRefused, stepState, stepJournal, Stepped}
 use Rattle.entries.proofs.Places.{slot-next}

@@ -16,8 +16,8 @@ use Rattle.machine.proofs.Tests.{unless-refused}
 use Rattle.registers.specs.State.{State, Sized}
 use Rattle.words.specs.Decode.{decoded, numberOf}
 use Rattle.programs.specs.Word.{wordAt, wordsOf}
-use Rattle.names.specs.Digits.{widthWithin, decimalWidth}
-use Rattle.names.specs.Named.{Put}
+use Rattle.digits.specs.Digits.{widthWithin, decimalWidth}
+use Rattle.digits.specs.Put.{Put}
 use Rattle.entries.specs.Layout.{entryBytes}
 use Rattle.lines.specs.Line.{mostLine, stepLine, lineRefused, LineWritten}
 use Rattle.lines.proofs.Lines.{written-put}

@@ -8,7 +8,7 @@ use Rattle.machine.specs.Size.{mostWords, Files}
 use Rattle.machine.specs.Refusal.{DONE, Test, outTest, refused, unlessRefused}
 use Rattle.machine.specs.declared.Answer.{Answer}
 use Rattle.registers.specs.State.{State, state}
-use Rattle.names.specs.Named.{Put}
+use Rattle.digits.specs.Put.{Put}
 use Rattle.entries.specs.Layout.{mostJournal, slotAt, heldOf, freshJournal}
 use Rattle.journal.specs.Calls.{stepRefused, stepState, stepJournal, Stepped}
 use Rattle.session.specs.declared.Session.{Session}

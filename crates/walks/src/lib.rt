@@ -8,7 +8,7 @@ ghost use Prim.Native.Nat.{_+_, _≤_};
 ghost use lib.ListN.{length};
 ghost use Rattle.machine.specs.Size.{mostLength, mostWords, vectorFile};
 ghost use Rattle.registers.specs.State.{state};
-ghost use Rattle.names.specs.Named.{Put};
+ghost use Rattle.digits.specs.Put.{Put};
 ghost use Rattle.entries.specs.Layout.{mostJournal};
 ghost use Rattle.lines.specs.Line.{mostLine};
 ghost use Rattle.walks.specs.Output.{linesFrom, linesMost, walkJournal, sessionLines, OutputWritten, Turned, Lent, Given};

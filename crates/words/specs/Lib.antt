@@ -1,5 +1,4 @@
 pub mod Digits
-pub mod Text
 pub mod Table
 pub mod Field
 pub mod Decode

@@ -6,8 +6,8 @@ use mathlib.Core.List.{List, [], _∷_, _++_}
 use lib.Dec.{eqb, leb}
 use lib.ListN.{getD, take}
 use Rattle.parts.specs.Part.{both}
+use Rattle.parts.specs.Text.{bytes}
 use Rattle.words.specs.Digits.{digitsAnd, wordDigits}
-use Rattle.words.specs.Text.{bytes}
 use Rattle.words.specs.declared.Row.{Row}
 use Rattle.words.specs.declared.Form.{Form}
 use Rattle.words.specs.declared.Parameters.{Parameters}

@@ -5,7 +5,7 @@ use denote.Ref.{now}
 use lib.ListN.{length}
 use borrow.Author.Needs.{needs}
 use Rattle.machine.specs.Refusal.{refused, filesTests}
-use Rattle.names.specs.Digits.{widthWithin, decimalWidth}
+use Rattle.digits.specs.Digits.{widthWithin, decimalWidth}
 use Rattle.registers.specs.State.{state}
 use Rattle.programs.specs.declared.Next.{Next}
 use Rattle.programs.specs.Word.{nextRefused}

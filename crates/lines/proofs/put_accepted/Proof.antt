@@ -6,8 +6,9 @@ use denote.Ref.{now}
 use lib.ListN.{length-append}
 use borrow.Author.Needs.{needs}
 use Rattle.machine.specs.Refusal.{DONE}
-use Rattle.names.specs.Named.{textOfWord, Put}
-use Rattle.names.proofs.Puts.{put-then, put-length}
+use Rattle.digits.specs.Put.{Put}
+use Rattle.digits.proofs.Puts.{put-then, put-length}
+use Rattle.names.specs.Named.{textOfWord}
 use Rattle.lines.specs.Line.{lead, withSpace, withNewline, hexOf}
 use Rattle.lines.proofs.put_accepted.Statement.{statement}
 use Rattle.lines.proofs.put_accepted.Tie as tie

@@ -6,8 +6,8 @@ use Prim.Native.Nat.{_+_}
 use native.Mathlib.Omega.{arith}
 use lib.ListN.{length, length-append}
 use borrow.Author.Needs.{needs}
-use Rattle.names.specs.Digits.{decimal}
-use Rattle.names.proofs.Puts.{put-then, put-length}
+use Rattle.digits.specs.Digits.{decimal}
+use Rattle.digits.proofs.Puts.{put-then, put-length}
 use Rattle.lines.proofs.put_field.Statement.{statement}
 use Rattle.lines.proofs.put_field.Tie as tie
 

@@ -6,8 +6,8 @@ use native.Mathlib.Omega.{arith}
 use denote.Ref.{now}
 use lib.ListN.{length, drop, length-drop}
 use lib.Seq.{drop-length}
-use Rattle.names.specs.Named.{Put}
-use Rattle.names.proofs.Puts.{put-then, put-none, put-length}
+use Rattle.digits.specs.Put.{Put}
+use Rattle.digits.proofs.Puts.{put-then, put-none, put-length}
 use Rattle.lines.specs.Line.{hexOf}
 use Rattle.lines.proofs.Hex.{hex-length, hex-next}
 use Rattle.lines.proofs.put_hex.Statement.{statement}

@@ -3,8 +3,8 @@
 use native.Mathlib.Omega.{arith}
 use lib.ListN.{length-append}
 use borrow.Author.Needs.{needs}
-use Rattle.names.specs.Digits.{decimal}
-use Rattle.names.proofs.Puts.{put-then, put-length}
+use Rattle.digits.specs.Digits.{decimal}
+use Rattle.digits.proofs.Puts.{put-then, put-length}
 use Rattle.lines.specs.Line.{withSpace}
 use Rattle.lines.proofs.put_lead.Statement.{statement}
 use Rattle.lines.proofs.put_lead.Tie as tie

@@ -5,8 +5,8 @@ use Prim.Native.Nat.{_+_}
 use native.Mathlib.Omega.{arith}
 use lib.ListN.{length, length-append}
 use borrow.Author.Needs.{needs}
-use Rattle.names.specs.Digits.{digitsIn}
-use Rattle.names.proofs.Puts.{put-then, put-length}
+use Rattle.digits.specs.Digits.{digitsIn}
+use Rattle.digits.proofs.Puts.{put-then, put-length}
 use Rattle.lines.specs.Line.{sixteen, wordHexDigits, lead, withNewline, refusedLine}
 use Rattle.lines.proofs.put_refused.Statement.{statement}
 use Rattle.lines.proofs.put_refused.Tie as tie

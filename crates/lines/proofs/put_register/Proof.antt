@@ -3,7 +3,7 @@
 use native.Mathlib.Omega.{arith}
 use denote.Ref.{now}
 use borrow.Author.Needs.{needs}
-use Rattle.names.proofs.Puts.{put-then, put-length}
+use Rattle.digits.proofs.Puts.{put-then, put-length}
 use Rattle.lines.specs.Line.{hexOf}
 use Rattle.lines.proofs.Lines.{ended-length}
 use Rattle.lines.proofs.put_register.Statement.{statement}

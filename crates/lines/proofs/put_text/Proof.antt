@@ -7,8 +7,9 @@ use denote.Ref.{now}
 use lib.ListN.{length}
 use borrow.Author.Needs.{needs}
 use borrow.Rule.Slice.PartMut.{putMid, mid-len}
-use Rattle.names.specs.Named.{textOfWord, Put}
-use Rattle.names.proofs.Puts.{put-then, put-length}
+use Rattle.digits.specs.Put.{Put}
+use Rattle.digits.proofs.Puts.{put-then, put-length}
+use Rattle.names.specs.Named.{textOfWord}
 use Rattle.names.proofs.Pieces.{word-length}
 use Rattle.lines.proofs.Pieces.{put-from}
 use Rattle.lines.proofs.Lines.{named-put}

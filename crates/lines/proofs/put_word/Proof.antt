@@ -2,9 +2,9 @@
 -- Assumes nothing.
 use native.Mathlib.Omega.{arith}
 use borrow.Author.Needs.{needs}
-use Rattle.names.specs.Digits.{digitsIn}
-use Rattle.names.proofs.Puts.{put-then, put-length}
-use Rattle.names.proofs.Decimals.{digits-length}
+use Rattle.digits.specs.Digits.{digitsIn}
+use Rattle.digits.proofs.Puts.{put-then, put-length}
+use Rattle.digits.proofs.Decimals.{digits-length}
 use Rattle.lines.specs.Line.{sixteen, wordHexDigits}
 use Rattle.lines.proofs.Lines.{ended-length}
 use Rattle.lines.proofs.put_word.Statement.{statement}

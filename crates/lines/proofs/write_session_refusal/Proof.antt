@@ -5,7 +5,7 @@ use native.Mathlib.Omega.{arith}
 use borrow.Author.Needs.{needs}
 use borrow.Author.Tests.{lt-ltb, le-ltb}
 use Rattle.machine.specs.Refusal.{OUT}
-use Rattle.names.specs.Digits.{digitsIn, widthWithin, decimalWidth}
+use Rattle.digits.specs.Digits.{digitsIn, widthWithin, decimalWidth}
 use Rattle.lines.specs.Line.{sessionLine}
 use Rattle.lines.proofs.Lines.{written-refused, written-done}
 use Rattle.lines.proofs.write_session_refusal.Statement.{statement}

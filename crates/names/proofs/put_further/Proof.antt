@@ -4,10 +4,10 @@ use borrow.Author.Needs.{needs}
 use mathlib.Core.List.{_++_}
 use Prim.Native.Nat.{_+_, _≤_}
 use lib.ListN.{length}
-use Rattle.words.specs.Text.{bytes}
+use Rattle.parts.specs.Text.{bytes}
+use Rattle.digits.proofs.Puts.{put-then, put-none, room-first, room-rest}
 use Rattle.names.specs.Text.{operandText}
 use Rattle.names.proofs.Pieces.{further-some}
-use Rattle.names.proofs.Puts.{put-then, put-none, room-first, room-rest}
 use Rattle.names.proofs.put_further.Statement.{statement}
 use Rattle.names.proofs.put_further.Tie as tie
 

@@ -3,9 +3,9 @@
 use borrow.Author.Needs.{needs}
 use mathlib.Core.List.{[], _∷_, _++_}
 use native.Mathlib.Omega.{arith}
-use Rattle.names.specs.Digits.{decimal}
+use Rattle.digits.specs.Digits.{decimal}
+use Rattle.digits.proofs.Puts.{put-then, room-first, room-rest}
 use Rattle.names.specs.Text.{letterOf}
-use Rattle.names.proofs.Puts.{put-then, room-first, room-rest}
 use Rattle.names.proofs.put_lanes.Statement.{statement}
 use Rattle.names.proofs.put_lanes.Tie as tie
 

@@ -1,7 +1,7 @@
 -- `put_name` meets its contract: six bytes are the name with its space, or the name that wants it.
 -- Assumes nothing.
 use borrow.Author.Needs.{needs}
-use Rattle.names.proofs.Puts.{put-then}
+use Rattle.digits.proofs.Puts.{put-then}
 use Rattle.names.proofs.Keys.{name-five, name-six}
 use Rattle.names.proofs.put_name.Statement.{statement}
 use Rattle.names.proofs.put_name.Tie as tie

@@ -2,9 +2,9 @@
 -- Assumes nothing.
 use borrow.Author.Needs.{needs}
 use mathlib.Core.List.{_++_}
-use Rattle.names.specs.Digits.{decimal}
+use Rattle.digits.specs.Digits.{decimal}
+use Rattle.digits.proofs.Puts.{put-then, room-first, room-rest}
 use Rattle.names.specs.Text.{suffixText}
-use Rattle.names.proofs.Puts.{put-then, room-first, room-rest}
 use Rattle.names.proofs.put_operand.Statement.{statement}
 use Rattle.names.proofs.put_operand.Tie as tie
 

@@ -1,7 +1,7 @@
 -- `put_suffix` meets its contract: a case for each kind of suffix.
 -- Assumes nothing.
 use borrow.Author.Needs.{needs}
-use Rattle.names.proofs.Puts.{put-none}
+use Rattle.digits.proofs.Puts.{put-none}
 use Rattle.names.proofs.put_suffix.Statement.{statement}
 use Rattle.names.proofs.put_suffix.Tie as tie
 

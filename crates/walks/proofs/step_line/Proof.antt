@@ -8,7 +8,7 @@ use lib.ListN.{length}
 use borrow.Author.Needs.{needs}
 use borrow.Rule.Slice.PartMut.{putMid, mid-len}
 use Rattle.registers.specs.State.{State, state}
-use Rattle.names.specs.Named.{Put}
+use Rattle.digits.specs.Put.{Put}
 use Rattle.lines.specs.Line.{mostLine}
 use Rattle.lines.proofs.Pieces.{put-from}
 use Rattle.walks.specs.Output.{printed}

@@ -10,8 +10,8 @@ use lib.ListN.{length}
 use borrow.Author.Needs.{needs}
 use Rattle.machine.specs.Size.{mostWords}
 use Rattle.registers.specs.State.{state}
-use Rattle.names.specs.Named.{Put}
-use Rattle.names.proofs.Puts.{put-then, put-none}
+use Rattle.digits.specs.Put.{Put}
+use Rattle.digits.proofs.Puts.{put-then, put-none}
 use Rattle.walks.specs.Output.{linesFrom, linesMost}
 use Rattle.walks.proofs.Outputs.{lines-more, lines-end, lines-none, turn-room}
 use Rattle.walks.proofs.write_lines.Statement.{statement}

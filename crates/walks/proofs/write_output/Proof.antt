@@ -9,7 +9,7 @@ use borrow.Author.Needs.{needs}
 use borrow.Author.Tests.{lt-ltb, le-ltb}
 use Rattle.machine.specs.Size.{mostWords}
 use Rattle.machine.specs.Refusal.{OUT}
-use Rattle.names.specs.Digits.{widthWithin, decimalWidth}
+use Rattle.digits.specs.Digits.{widthWithin, decimalWidth}
 use Rattle.session.specs.Layout.{programPart}
 use Rattle.lines.specs.Line.{mostLine}
 use Rattle.lines.proofs.Lines.{written-refused, written-done}

@@ -10,8 +10,8 @@ use lib.Dec.{ltb}
 use lib.ListN.{length, length-append, set}
 use lib.Seq.{sets, set-comm}
 use borrow.Author.Tests.{ltb-true, ltb-false}
-use Rattle.names.specs.Digits.{digitOf, digitsIn, mostDigits, widthWithin, decimalWidth, decimal}
-use Rattle.names.proofs.Puts.{put-then, put-one}
+use Rattle.digits.specs.Digits.{digitOf, digitsIn, mostDigits, widthWithin, decimalWidth, decimal}
+use Rattle.digits.proofs.Puts.{put-then, put-one}
 
 -- so many digits
 pub digits-length : (base count n : ℕ) → length (digitsIn base count n) ≡ count

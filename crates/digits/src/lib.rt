@@ -3,8 +3,8 @@ ghost use mathlib.Core.Path.{_≡_};
 ghost use mathlib.Core.List.{[], _∷_};
 ghost use Prim.Native.Nat.{_+_, _≤_, _<_};
 ghost use lib.ListN.{length};
-ghost use Rattle.names.specs.Digits.{digitOf, digitsIn, decimalWidth, decimal};
-ghost use Rattle.names.specs.Named.{Put};
+ghost use Rattle.digits.specs.Digits.{digitOf, digitsIn, decimalWidth, decimal};
+ghost use Rattle.digits.specs.Put.{Put};
 
 // The digit of each value.
 const DIGITS: [u8; 16] = *b"0123456789abcdef";

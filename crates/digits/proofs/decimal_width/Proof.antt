@@ -4,10 +4,10 @@
 use mathlib.Core.Path.{_≡_, refl}
 use Prim.Native.Nat.{ℕ, zero, suc, _+_, _-_, _/_, _^_, _≤_, _<_}
 use native.Mathlib.Omega.{arith}
-use Rattle.names.specs.Digits.{mostDigits, widthWithin, decimalWidth}
-use Rattle.names.proofs.Decimals.{Width, one, further, width, div-ten-below}
-use Rattle.names.proofs.digits.decimal_width.Statement.{statement}
-use Rattle.names.proofs.digits.decimal_width.Tie as tie
+use Rattle.digits.specs.Digits.{mostDigits, widthWithin, decimalWidth}
+use Rattle.digits.proofs.Decimals.{Width, one, further, width, div-ten-below}
+use Rattle.digits.proofs.decimal_width.Statement.{statement}
+use Rattle.digits.proofs.decimal_width.Tie as tie
 
 -- the digits counted, the last of them the rest's own, and how many further the rest may have
 record Counted (n rest count : ℕ) : Type 0 where

@@ -2,10 +2,10 @@
 -- Assumes nothing.
 use borrow.Author.Needs.{needs}
 use native.Mathlib.Omega.{arith}
-use Rattle.names.specs.Digits.{decimalWidth}
-use Rattle.names.proofs.Decimals.{digits-length}
-use Rattle.names.proofs.digits.put_decimal.Statement.{statement}
-use Rattle.names.proofs.digits.put_decimal.Tie as tie
+use Rattle.digits.specs.Digits.{decimalWidth}
+use Rattle.digits.proofs.Decimals.{digits-length}
+use Rattle.digits.proofs.put_decimal.Statement.{statement}
+use Rattle.digits.proofs.put_decimal.Tie as tie
 
 -- where the function starts
 abbrev start : tie.After-decimal-width → tie.Start

@@ -2,9 +2,9 @@
 -- Assumes nothing.
 use borrow.Author.Needs.{needs}
 use mathlib.Core.Path.{refl}
-use Rattle.names.specs.Digits.{digitOf}
-use Rattle.names.proofs.digits.digit.Statement.{statement}
-use Rattle.names.proofs.digits.digit.Tie as tie
+use Rattle.digits.specs.Digits.{digitOf}
+use Rattle.digits.proofs.digit.Statement.{statement}
+use Rattle.digits.proofs.digit.Tie as tie
 
 returns : tie.Need-returns
 unfolding digitOf

@@ -7,7 +7,7 @@ use native.Mathlib.Nat.{add-zero, zero-add, add-suc, suc-add}
 use native.Mathlib.Omega.{arith}
 use lib.ListN.{length, length-append, take, set}
 use lib.Seq.{sets, length-sets, sets-eq, take-at}
-use Rattle.names.specs.Named.{Put}
+use Rattle.digits.specs.Put.{Put}
 
 sets-append : (l : List ℕ) (i : ℕ) (p q : List ℕ) → sets l i (p ++ q) ≡ sets (sets l i p) (i + length p) q
 sets-append l i [] q = rw add-zero

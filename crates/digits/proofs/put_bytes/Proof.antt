@@ -3,8 +3,8 @@
 use borrow.Author.Needs.{needs}
 use mathlib.Core.Path.{refl, sym, _∙_}
 use lib.Seq.{sets-eq}
-use Rattle.names.proofs.digits.put_bytes.Statement.{statement}
-use Rattle.names.proofs.digits.put_bytes.Tie as tie
+use Rattle.digits.proofs.put_bytes.Statement.{statement}
+use Rattle.digits.proofs.put_bytes.Tie as tie
 
 returns : tie.Need-returns
 returns c = record { bytes = c .before .before .overwrite .ensures ∙ sym (sets-eq _ _ _ (c .before .before .before .before .before .before .pre)); after = refl }

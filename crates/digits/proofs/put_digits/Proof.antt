@@ -7,10 +7,10 @@ use native.Mathlib.Nat.{mod-lt}
 use native.Mathlib.Omega.{arith}
 use lib.ListN.{length, length-set}
 use lib.Seq.{sets}
-use Rattle.names.specs.Digits.{digitsIn}
-use Rattle.names.proofs.Decimals.{digits-length, digits-next}
-use Rattle.names.proofs.digits.put_digits.Statement.{statement}
-use Rattle.names.proofs.digits.put_digits.Tie as tie
+use Rattle.digits.specs.Digits.{digitsIn}
+use Rattle.digits.proofs.Decimals.{digits-length, digits-next}
+use Rattle.digits.proofs.put_digits.Statement.{statement}
+use Rattle.digits.proofs.put_digits.Tie as tie
 
 abbrev Inv-loop : tie.InvT-loop
 Inv-loop out₀ at base count n rest₀ i₀ out rest i =
