@@ -38,7 +38,7 @@ use Rattle.meaning.specs.Meaning.{familyTerms, lanesAfter}
 use Rattle.meaning.specs.Execute.{operandsOf, feeds, integerAfter, widthFor, lanesFor, destinationAfter}
 use Rattle.meaning.specs.Needs.{Executable}
 use Rattle.meaning.specs.Theorems.{isGoverned, governedOf, Agree}
-use Rattle.widens.proofs.Halves.{element-same, half-same}
+use Rattle.elements.proofs.Halves.{element-same, half-same}
 use Rattle.meaning.proofs.Sizes.{false-not-true, vector-length, whole, wide-halves}
 
 module _ (o o′ : Operands) where

@@ -20,7 +20,8 @@ use Rattle.sums.proofs.Accepted.{width-legal}
 use Rattle.meaning.specs.Terms.{sumOf, pairwiseTerms, wideningTerms}
 use Rattle.meaning.specs.Execute.{integerAfter, laneWritten}
 use Rattle.meaning.specs.Needs.{Executable}
-use Rattle.widens.specs.Needs.{HalfLanes, WideTurn}
+use Rattle.elements.specs.Needs.{HalfLanes}
+use Rattle.widens.specs.Needs.{WideTurn}
 use Rattle.meaning.proofs.Sizes.{vector-in, vector-length, governs, wide-halves}
 use Rattle.widens.proofs.InPlace.{lane-ends}
 

@@ -39,7 +39,7 @@ use Rattle.meaning.specs.Meaning.{wideTerms}
 use Rattle.meaning.specs.Execute.{operandsOf, maskOf, integerAfter, laneWritten, executed}
 use Rattle.meaning.specs.Needs.{ExecutableAs}
 use Rattle.widens.specs.Needs.{WideLanes, WideTurn}
-use Rattle.widens.proofs.Halves.{element-same, half-same}
+use Rattle.elements.proofs.Halves.{element-same, half-same}
 use Rattle.meaning.proofs.Padded.{padded-full}
 use Rattle.meaning.proofs.Sizes.{whole, k-most, wide-halves, vector-in, vector-length, second-most}
 

@@ -1,8 +1,8 @@
 -- `widening_lane` meets its contract: the half is the one that the form takes.
 -- Assumes nothing.
 use borrow.Author.Needs.{needs}
-use Rattle.widens.proofs.widening_lane.Statement.{statement}
-use Rattle.widens.proofs.widening_lane.Tie as tie
+use Rattle.elements.proofs.widening_lane.Statement.{statement}
+use Rattle.elements.proofs.widening_lane.Tie as tie
 
 returns : tie.Need-returns
 returns c = rw (c .before .if1 .taken) (c .half-sum .ensures)

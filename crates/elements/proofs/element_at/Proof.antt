@@ -7,8 +7,8 @@ use native.Mathlib.Omega.{arith}
 use Rattle.parts.specs.Number.{bitsOf}
 use Rattle.lanes.specs.Integer.{integer, residue}
 use Rattle.lanes.proofs.Bytes.{lane-lt}
-use Rattle.widens.proofs.element_at.Statement.{statement}
-use Rattle.widens.proofs.element_at.Tie as tie
+use Rattle.elements.proofs.element_at.Statement.{statement}
+use Rattle.elements.proofs.element_at.Tie as tie
 
 extend-requires : tie.Need-extend-requires
 extend-requires c κs =

@@ -6,9 +6,9 @@ use mathlib.Core.Path.{sym, _∙_, ap₂}
 use native.Mathlib.Omega.{arith}
 use Rattle.lanes.specs.Sum.{element}
 use Rattle.lanes.proofs.Sums.{residue-two}
-use Rattle.widens.proofs.Halves.{half-inside, half-number}
-use Rattle.widens.proofs.half_sum.Statement.{statement}
-use Rattle.widens.proofs.half_sum.Tie as tie
+use Rattle.elements.proofs.Halves.{half-inside, half-number}
+use Rattle.elements.proofs.half_sum.Statement.{statement}
+use Rattle.elements.proofs.half_sum.Tie as tie
 
 -- the half elements' numbers are small
 number-small : (c : tie.Start) → 2 * c .args .e + 2 < 2 ^ 64

@@ -11,8 +11,8 @@ use Rattle.lanes.specs.Lane.{lane}
 use Rattle.lanes.specs.Integer.{residue}
 use Rattle.lanes.specs.Sum.{element, total}
 use Rattle.lanes.proofs.Residues.{residue-sum}
-use Rattle.widens.proofs.pairwise_lane.Statement.{statement}
-use Rattle.widens.proofs.pairwise_lane.Tie as tie
+use Rattle.elements.proofs.pairwise_lane.Statement.{statement}
+use Rattle.elements.proofs.pairwise_lane.Tie as tie
 
 -- the old lane is its own 64 digits
 old : (c : tie.After-lane)
