@@ -12,6 +12,7 @@ use Rattle.words.specs.declared.Fields.{Fields}
 use Rattle.words.specs.declared.Parameters.{Parameters}
 use Rattle.words.specs.declared.Family.the-variants.{Wide}
 use Rattle.words.specs.declared.WideFamily.{WideFamily}
+use Rattle.words.specs.declared.WideFamily.the-variants.{Pairwise, Widening}
 use Rattle.meaning.specs.Needs.{ExecutableAs}
 use Rattle.widens.specs.Needs.{WideLanes}
 use Rattle.meaning.proofs.Sizes.{wide-eight}
@@ -26,55 +27,29 @@ as-arm : (wide arm : WideFamily) (ps : Parameters) (w v : ℕ) (f : Fields) (k :
     → WideLanes arm ps v f k s
 as-arm wide arm ps w v f k s h family is number = record { word = rw family at (h .0); parameters = h .1; width = sym number ∙ is }
 
--- where the word stands
+-- where the word stands, once its width is known
 abbrev begin : tie.After-width-of → tie.Start
 begin c = c .before .before .before
 
+-- what an arm asks: its family is told, and its number is the width
+pairwise-arm : (c : tie.After-enum-told) (v : ℕ) → c .before .before .width-of .result ≡ v
+    → let s = begin (c .before .before) in WideLanes Pairwise (s .args .parameters) v (s .args .f) (s .args .k) (state (now (s .args .z)) (now (s .args .p)))
+pairwise-arm c v is =
+    let o = c .before .before in
+    as-arm _ _ _ _ _ _ _ _ (begin o .pre) (c .enum-told .given .1) (o .width-of .ensures) is
+
+widening-arm : (c : tie.After-enum-told2) (v : ℕ) → c .before .before .width-of .result ≡ v
+    → let s = begin (c .before .before) in WideLanes Widening (s .args .parameters) v (s .args .f) (s .args .k) (state (now (s .args .z)) (now (s .args .p)))
+widening-arm c v is =
+    let o = c .before .before in
+    as-arm _ _ _ _ _ _ _ _ (begin o .pre) (c .enum-told2 .given .1) (o .width-of .ensures) is
+
 -- what is neither two nor four is eight
-last : (wide : WideFamily) (f : Fields) (k : ℕ) (s : State) → ExecutableAs (Wide wide) f k s → (w : ℕ) → w ≡ widthOf (f .size) → (w ≡ 2 → ⊥) → (w ≡ 4 → ⊥) → w ≡ 8
-last wide f k s h w is not2 not4 = is ∙ wide-eight f k s (h .word) wide (h .is) (λ e. not2 (is ∙ e)) (λ e. not4 (is ∙ e))
-
-pairwise-lanes-requires : tie.Need-pairwise-lanes-requires
-pairwise-lanes-requires c κs =
-    let t = c .before .before in
-    let o = t .before .before in
-    let is : o .width-of .result ≡ 2 = omega arith in
-    as-arm _ _ _ _ _ _ _ _ (begin o .pre) (t .enum-told .given .1) (o .width-of .ensures) is
-
-pairwise-lanes-requires-2 : tie.Need-pairwise-lanes-requires-2
-pairwise-lanes-requires-2 c κs =
-    let t = c .before .before in
-    let o = t .before .before in
-    let is : o .width-of .result ≡ 4 = omega arith in
-    as-arm _ _ _ _ _ _ _ _ (begin o .pre) (t .enum-told .given .1) (o .width-of .ensures) is
-
-pairwise-lanes-requires-3 : tie.Need-pairwise-lanes-requires-3
-pairwise-lanes-requires-3 c κs =
-    let t = c .before .before in
-    let o = t .before .before in
-    let is : o .width-of .result ≡ 8 = last _ _ _ _ (begin o .pre .0) _ (o .width-of .ensures) (c .before .match2 .rest .0 .1) (c .before .match2 .rest .1) in
-    as-arm _ _ _ _ _ _ _ _ (begin o .pre) (t .enum-told .given .1) (o .width-of .ensures) is
-
-widening-lanes-requires : tie.Need-widening-lanes-requires
-widening-lanes-requires c κs =
-    let t = c .before .before in
-    let o = t .before .before in
-    let is : o .width-of .result ≡ 2 = omega arith in
-    as-arm _ _ _ _ _ _ _ _ (begin o .pre) (t .enum-told2 .given .1) (o .width-of .ensures) is
-
-widening-lanes-requires-2 : tie.Need-widening-lanes-requires-2
-widening-lanes-requires-2 c κs =
-    let t = c .before .before in
-    let o = t .before .before in
-    let is : o .width-of .result ≡ 4 = omega arith in
-    as-arm _ _ _ _ _ _ _ _ (begin o .pre) (t .enum-told2 .given .1) (o .width-of .ensures) is
-
-widening-lanes-requires-3 : tie.Need-widening-lanes-requires-3
-widening-lanes-requires-3 c κs =
-    let t = c .before .before in
-    let o = t .before .before in
-    let is : o .width-of .result ≡ 8 = last _ _ _ _ (begin o .pre .0) _ (o .width-of .ensures) (c .before .match3 .rest .0 .1) (c .before .match3 .rest .1) in
-    as-arm _ _ _ _ _ _ _ _ (begin o .pre) (t .enum-told2 .given .1) (o .width-of .ensures) is
+last : (c : tie.After-width-of) → (c .width-of .result ≡ 2 → ⊥) → (c .width-of .result ≡ 4 → ⊥) → c .width-of .result ≡ 8
+last c not2 not4 =
+    let h = begin c .pre .0 in
+    let is = c .width-of .ensures in
+    is ∙ wide-eight _ _ _ (h .word) _ (h .is) (λ e. not2 (is ∙ e)) (λ e. not4 (is ∙ e))
 
 pub write-lanes-spec : {M : Type 1} → statement M
 write-lanes-spec =
@@ -82,22 +57,22 @@ write-lanes-spec =
     (tie.spec
     (λ c κs. search needs)
     (λ c. search needs)
-    pairwise-lanes-requires
-    pairwise-lanes-requires-2
-    pairwise-lanes-requires-3
+    (λ c κs. pairwise-arm (c .before .before) 2 (omega arith))
+    (λ c κs. pairwise-arm (c .before .before) 4 (omega arith))
+    (λ c κs. let m = c .before .match2 .rest in pairwise-arm (c .before .before) 8 (last (c .before .before .before .before) (m .0 .1) (m .1)))
     (λ c. search needs)
-    widening-lanes-requires
-    widening-lanes-requires-2
-    widening-lanes-requires-3
+    (λ c κs. widening-arm (c .before .before) 2 (omega arith))
+    (λ c κs. widening-arm (c .before .before) 4 (omega arith))
+    (λ c κs. let m = c .before .match3 .rest in widening-arm (c .before .before) 8 (last (c .before .before .before .before) (m .0 .1) (m .1)))
     (λ c. search needs)
+    (λ c. c .before .before .pairwise-lanes .ensures)
     (λ c. search needs)
+    (λ c. c .before .before .pairwise-lanes2 .ensures)
     (λ c. search needs)
+    (λ c. c .before .before .pairwise-lanes3 .ensures)
     (λ c. search needs)
+    (λ c. c .before .before .widening-lanes .ensures)
     (λ c. search needs)
+    (λ c. c .before .before .widening-lanes2 .ensures)
     (λ c. search needs)
-    (λ c. search needs)
-    (λ c. search needs)
-    (λ c. search needs)
-    (λ c. search needs)
-    (λ c. search needs)
-    (λ c. search needs))
+    (λ c. c .before .before .widening-lanes3 .ensures))
