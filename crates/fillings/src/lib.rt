@@ -51,19 +51,41 @@ pub fn fill_predicates(p: &mut [u8])
 // How many words there are.
 pub const COUNT: usize = 11;
 
-// The words that are executed: every row, each with its destination among its sources.
+// The words that are executed, one of every row, each with its destination among its sources.
+const SADDV: u64 = 0x04002463;
+
+const UADDV: u64 = 0x04C12463;
+
+const ADDQV: u64 = 0x04452463;
+
+const SADDLV: u64 = 0x4E303863;
+
+const UADDLV: u64 = 0x6EB03863;
+
+const SADALP: u64 = 0x4444A463;
+
+const UADALP: u64 = 0x44C5A463;
+
+const SADDLB: u64 = 0x45430063;
+
+const SADDLT: u64 = 0x45830463;
+
+const UADDLB: u64 = 0x45C30863;
+
+const UADDLT: u64 = 0x45430C63;
+
 const WORDS: [u64; COUNT] = [
-    0x04002463,
-    0x04C12463,
-    0x04452463,
-    0x4E303863,
-    0x6EB03863,
-    0x4444A463,
-    0x44C5A463,
-    0x45430063,
-    0x45830463,
-    0x45C30863,
-    0x45430C63,
+    SADDV,
+    UADDV,
+    ADDQV,
+    SADDLV,
+    UADDLV,
+    SADALP,
+    UADALP,
+    SADDLB,
+    SADDLT,
+    UADDLB,
+    UADDLT,
 ];
 
 // Fills a program with those words, one after the other and again from the first.
