@@ -1,6 +1,6 @@
 -- Where `rowOf` stops: at the first row that matches, or past the last.
 -- Assumes nothing.
-use mathlib.Core.Path.{_≡_, refl, sym, _∙_}
+use mathlib.Core.Path.{_≡_, refl, sym, _∙_, ap}
 use mathlib.Core.Bool.{Bool, true, false, cond}
 use mathlib.Core.List.{List, [], _∷_}
 use Prim.Native.Nat.{ℕ, zero, suc, _+_, _≤_, _<_}
@@ -17,6 +17,11 @@ pub at-any : {A : Type 0} (l : List A) (i : ℕ) (a b : A) → i < length l → 
 at-any [] i a b h = absurd (omega arith)
 at-any (x ∷ l) zero a b h = refl
 at-any (x ∷ l) (suc i) a b h = at-any l i a b (omega arith)
+
+-- a row read from the table at hand
+pub row-read : (lines : List Row) (i : ℕ) (outside : Row) → lines ≡ table → i < rows → getD lines i outside ≡ rowAt i
+unfolding rowAt
+row-read lines i outside is h = ap (λ (l : List Row). getD l i outside) is ∙ at-any table i outside noRow h
 
 -- the place counted from i on, at a row that matches and at one that does not
 place-at : (i word : ℕ) → i < rows

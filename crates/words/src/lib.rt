@@ -3,7 +3,7 @@ use machine::refusal;
 ghost use mathlib.Core.Path.{_≡_};
 ghost use Prim.Native.Nat.{_<_, _^_};
 ghost use Rattle.words.specs.Digits.{field, wordDigits};
-ghost use Rattle.words.specs.Table.{rowAt, matches, rowOf, familyOf, formOf, within, mostReduced, allowsLong, allowsLow, allows};
+ghost use Rattle.words.specs.Table.{table, rowAt, matches, rowOf, familyOf, formOf, within, mostReduced, allowsLong, allowsLow, allows};
 ghost use Rattle.words.specs.Field.{sizeDigits, governingDigits, secondDigits, qDigits, Counted};
 ghost use Rattle.words.specs.Decode.{decoded, numberOf, fieldsAt};
 
@@ -122,11 +122,23 @@ const TABLE: [Row; ROWS] = [
 // What stands past the last row.
 const NO_ROW: Row = Row(*b"      ", 0, 0, SEGMENT, UNSIGNED);
 
+// The table at hand.
+fn table() -> [Row; ROWS]
+    ensures { λ r. ⌜ r ≡ table ⌝ }
+{
+    TABLE
+}
+
 // The row at a place.
 pub fn row_at(i: usize) -> Row
     ensures { λ r. ⌜ r ≡ rowAt i ⌝ }
 {
-    if i < ROWS { TABLE[i] } else { NO_ROW }
+    if i < ROWS {
+        let lines = table();
+        lines[i]
+    } else {
+        NO_ROW
+    }
 }
 
 // The family of the row at a place.
@@ -158,10 +170,10 @@ fn matches(row: Row, word: u32) -> bool
 fn row_of(word: u32) -> usize
     ensures { λ r. ⌜ r ≡ rowOf word ⌝ }
 {
-    let table = TABLE;
+    let lines = table();
     let mut i = 0;
     while i < ROWS {
-        if matches(table[i], word) {
+        if matches(lines[i], word) {
             return i;
         }
         i += 1;

@@ -4,17 +4,16 @@ use borrow.Author.Needs.{needs}
 use mathlib.Core.Path.{sym}
 use lib.ListN.{List·getD-eq-default}
 use Rattle.words.specs.Table.{table, rowAt}
-use Rattle.words.proofs.Rows.{at-any}
+use Rattle.words.proofs.Rows.{row-read}
 use Rattle.words.proofs.row_at.Statement.{statement}
 use Rattle.words.proofs.row_at.Tie as tie
 
 returns : tie.Need-returns
-unfolding rowAt
-returns c = at-any table (c .before .before .args .i) _ _ (search needs)
+returns c = row-read _ _ _ (c .before .table .ensures) (c .before .before .if1 .taken)
 
 returns-2 : tie.Need-returns-2
 unfolding rowAt
 returns-2 c = sym (List·getD-eq-default table _ (c .if1 .left))
 
 pub row-at-spec : {M : Type 1} → statement M
-row-at-spec = tie.close (tie.spec (λ c. search needs) (λ c. search needs) returns returns-2)
+row-at-spec = tie.close (tie.spec (λ c κs. search needs) (λ c. search needs) (λ c. search needs) returns returns-2)

@@ -5,9 +5,9 @@ use mathlib.Core.Path.{_≡_, refl, sym, _∙_, ap}
 use Prim.Native.Nat.{ℕ, _≤_, _-_}
 use native.Mathlib.Omega.{arith}
 use lib.ListN.{drop}
-use Rattle.words.specs.Table.{table, noRow, rows, rowAt, rowOf, matches, placeFrom}
+use Rattle.words.specs.Table.{table, rows, rowAt, rowOf, matches, placeFrom}
 use Rattle.words.specs.declared.Row.{Row}
-use Rattle.words.proofs.Rows.{at-any, place-here, place-next}
+use Rattle.words.proofs.Rows.{row-read, place-here, place-next}
 use Rattle.words.proofs.row_of.Statement.{statement}
 use Rattle.words.proofs.row_of.Tie as tie
 
@@ -21,22 +21,25 @@ loop-holds : tie.Need-loop-holds Inv-loop μ-loop
 unfolding rowOf
 loop-holds c = (omega arith, refl)
 
--- within the loop
+-- within the loop, where the table was taken, and the word
 abbrev in-loop : tie.After-matches Inv-loop μ-loop → tie.In-loop Inv-loop μ-loop
 in-loop c = c .before .before
 
+abbrev taken : tie.In-loop Inv-loop μ-loop → tie.After-table Inv-loop μ-loop
+taken c = c .before .before
+
+abbrev word : tie.After-matches Inv-loop μ-loop → ℕ
+word c = taken (in-loop c) .before .args .word
+
 found : (c : tie.After-matches Inv-loop μ-loop)
-    → placeFrom (in-loop c .before .loop .i) (drop (in-loop c .before .loop .i) table) (in-loop c .before .before .args .word)
-    ≡ rowOf (in-loop c .before .before .args .word)
+    → placeFrom (in-loop c .before .loop .i) (drop (in-loop c .before .loop .i) table) (word c) ≡ rowOf (word c)
 found c = in-loop c .before .loop .inv .1
 
 -- the row that is tried is the table's at the place
-tried : (c : tie.After-matches Inv-loop μ-loop)
-    → c .matches .result ≡ matches (rowAt (in-loop c .before .loop .i)) (in-loop c .before .before .args .word)
-unfolding rowAt
+tried : (c : tie.After-matches Inv-loop μ-loop) → c .matches .result ≡ matches (rowAt (in-loop c .before .loop .i)) (word c)
 tried c =
     c .matches .ensures
-    ∙ ap (λ (row : Row). matches row (in-loop c .before .before .args .word)) (at-any table (in-loop c .before .loop .i) _ noRow (in-loop c .loop-test .taken))
+    ∙ ap (λ (row : Row). matches row (word c)) (row-read _ (in-loop c .before .loop .i) _ (taken (in-loop c) .table .ensures) (in-loop c .loop-test .taken))
 
 returns : tie.Need-returns Inv-loop μ-loop
 returns c = sym (place-here _ _ (in-loop (c .before) .loop-test .taken) (sym (tried (c .before)) ∙ c .if1 .taken)) ∙ found (c .before)
@@ -53,4 +56,4 @@ returns-2 : tie.Need-returns-2 Inv-loop μ-loop
 returns-2 c = past _ _ (omega arith) (c .before .loop .inv .1)
 
 pub row-of-spec : {M : Type 1} → statement M
-row-of-spec = tie.close (tie.spec Inv-loop μ-loop loop-holds (λ c. search needs) (λ c. search needs) (λ c κs. search needs) returns (λ c. search needs) (λ c. omega arith) loop-again returns-2)
+row-of-spec = tie.close (tie.spec Inv-loop μ-loop (λ c κs. search needs) loop-holds (λ c. search needs) (λ c. search needs) (λ c κs. search needs) returns (λ c. search needs) (λ c. omega arith) loop-again returns-2)
