@@ -22,27 +22,31 @@ loop-holds : tie.Need-loop-holds Inv-loop μ-loop
 unfolding tally
 loop-holds c = (omega arith, refl)
 
+-- the loop's turn
+abbrev turn : tie.After-one-if Inv-loop μ-loop → tie.At-loop Inv-loop μ-loop
+turn c = c .before .before .before .before
+
 -- what is added is whether the word at hand is counted
 added : (c : tie.After-one-if Inv-loop μ-loop)
     → c .one-if .result
     ≡ cond
     (eqb
-    (numberOf (decoded (c .before .before .before .before .before .args .upper * blockWords + c .before .before .before .before .loop .low)))
-    (c .before .before .before .before .before .args .counted))
+    (numberOf (decoded (turn c .before .args .upper * blockWords + turn c .loop .low)))
+    (turn c .before .args .counted))
     1
     0
 added c =
     c .one-if .ensures
-    ∙ ap (λ (number : ℕ). cond (eqb number (c .before .before .before .before .before .args .counted)) 1 0)
+    ∙ ap (λ (number : ℕ). cond (eqb number (turn c .before .args .counted)) 1 0)
     (c .before .number-of .ensures ∙ ap numberOf (c .before .before .decode .ensures))
 
 -- so the new count is that of one word more
 next : (c : tie.After-one-if Inv-loop μ-loop)
-    → c .before .before .before .before .loop .count + c .one-if .result
-    ≡ tally (c .before .before .before .before .before .args .counted) (c .before .before .before .before .before .args .upper * blockWords) (c .before .before .before .before .loop .low + 1)
+    → turn c .loop .count + c .one-if .result
+    ≡ tally (turn c .before .args .counted) (turn c .before .args .upper * blockWords) (turn c .loop .low + 1)
 next c =
-    ap₂ (λ (x y : ℕ). x + y) (c .before .before .before .before .loop .inv .1) (added c)
-    ∙ sym (tally-next (c .before .before .before .before .before .args .counted) _ (c .before .before .before .before .loop .low))
+    ap₂ (λ (x y : ℕ). x + y) (turn c .loop .inv .1) (added c)
+    ∙ sym (tally-next (turn c .before .args .counted) _ (turn c .loop .low))
 
 add-count : tie.Need-add-count Inv-loop μ-loop
 add-count c =
@@ -50,9 +54,9 @@ add-count c =
       arith,
       next c,
       tally-most
-          (c .before .before .before .before .before .args .counted)
-          (c .before .before .before .before .before .args .upper * blockWords)
-          (c .before .before .before .before .loop .low + 1),
+          (turn c .before .args .counted)
+          (turn c .before .args .upper * blockWords)
+          (turn c .loop .low + 1),
     )
 
 loop-again : tie.Need-loop-again Inv-loop μ-loop

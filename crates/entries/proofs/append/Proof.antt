@@ -26,6 +26,7 @@ appended : (k d i at : ℕ) (z old journal entries after : List ℕ) → i ≡ h
 appended k d i at z old journal entries after held place inside whole bytes put is =
     is ∙ rw (put, with-next at (length old) d old journal inside, whole, bytes, place, held)
 
+-- where the function started, the entry has its place, and its bytes are written
 abbrev start : tie.After-held-of → tie.Start
 start c = c .before .before .before .before
 

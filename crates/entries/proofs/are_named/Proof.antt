@@ -19,12 +19,15 @@ Inv-loop k journal n layout i₀ i = (i ≤ n) × (areNamed (firstEntries k jour
 abbrev μ-loop : tie.MeasureT-loop
 μ-loop k journal n layout i₀ i = n - i
 
--- the function's entry and the loop's turn, from the place where the entry's byte is read
-abbrev start : tie.After-shared-slice-known2 Inv-loop μ-loop → tie.Start Inv-loop μ-loop
-start c = c .before .before .before .before .before .before
+-- the function's entry, then the loop's turn and that entry from the place where the entry's byte is read
+abbrev begin : tie.At-loop Inv-loop μ-loop → tie.Start Inv-loop μ-loop
+begin c = c .before .before .before
 
 abbrev turn : tie.After-shared-slice-known2 Inv-loop μ-loop → tie.At-loop Inv-loop μ-loop
 turn c = c .before .before .before
+
+abbrev start : tie.After-shared-slice-known2 Inv-loop μ-loop → tie.Start Inv-loop μ-loop
+start c = begin (turn c)
 
 loop-holds : tie.Need-loop-holds Inv-loop μ-loop
 loop-holds c = (omega arith, refl)
@@ -62,7 +65,7 @@ loop-again c =
 returns-2 : tie.Need-returns-2 Inv-loop μ-loop
 returns-2 c =
     let l = c .before .loop in
-    let end : c .before .before .before .before .args .n ≡ l .i = omega arith in
+    let end : begin (c .before) .args .n ≡ l .i = omega arith in
     rw end (sym (l .inv .1))
 
 pub are-named-spec : {M : Type 1} → statement M

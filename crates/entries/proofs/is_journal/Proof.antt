@@ -26,8 +26,12 @@ module _ (k : ℕ) (journal : List ℕ) (agrees : sameBytes (take countAt journa
   numbered : heldOf journal ≤ mostWords → heldOf journal ≤ capacity k (length journal) → isJournal k journal ≡ areNamed (entriesOf k journal)
   numbered few h = rw (agrees, le-leb _ _ few, le-leb _ _ h)
 
+-- where the function started, and where the count is read
 abbrev start : tie.After-has-heading → tie.Start
 start c = c .before .before
+
+abbrev counted : tie.After-capacity → tie.After-held-of
+counted c = c .before .before
 
 -- past the first test the heading agrees
 agrees : (c : tie.Else1) →
@@ -45,13 +49,13 @@ returns-2 c =
 
 returns-3 : tie.Need-returns-3
 returns-3 c =
-    let e = c .before .before .before .before in
+    let e = counted (c .before) .before in
     let a = start (e .before) .args in
     sym (too-long (a .k) (now (a .journal)) (agrees e) (omega arith) (omega arith))
 
 returns-4 : tie.Need-returns-4
 returns-4 c =
-    let h = c .before .before .before .before in
+    let h = counted (c .before .before) in
     let e = h .before in
     let a = start (e .before) .args in
     c .are-named .ensures

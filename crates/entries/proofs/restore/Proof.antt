@@ -33,6 +33,7 @@ module _ (k i at bytes : ℕ) (journal : List ℕ) (place : at ≡ slotAt k i) (
       → after ≡ withVector k (entryIn k journal i .number) (entryIn k journal i .old) z
   put-back z after is = is ∙ rw (old, size, sub-self (vectorBytes k), append-nil, place)
 
+-- where the function started, the register is measured, and written
 abbrev start : tie.After-vector-bytes → tie.Start
 start c = c .before .before .before .before
 

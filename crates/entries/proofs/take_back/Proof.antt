@@ -23,6 +23,7 @@ taken-back : (k held at bytes : ℕ) (z journal z-after cleared after : List ℕ
 taken-back k held at bytes z journal z-after cleared after count place width put zeros is =
     record { vectors = put ∙ rw count; bytes = is ∙ rw (zeros, place, width, count) }
 
+-- where the count is read, the function started, the bytes are put back and the entry is cleared
 abbrev held : tie.After-restore-arg2 → tie.After-held-of
 held c = c .before .before
 

@@ -18,15 +18,19 @@ Inv-loop program₀ i₀ program i =
 abbrev μ-loop : tie.MeasureT-loop
 μ-loop program₀ i₀ program i = length program₀ - i
 
+-- the loop's turn, whose word is written
+abbrev turn : tie.After-put-number Inv-loop μ-loop → tie.At-loop Inv-loop μ-loop
+turn c = c .before .before .before
+
 loop-holds : tie.Need-loop-holds Inv-loop μ-loop
 loop-holds c = (omega arith, refl, words-none (c .before .args .program .now))
 
 loop-again : tie.Need-loop-again Inv-loop μ-loop
 loop-again c =
-    let start = c .before .before .before .before .before .before .before .args .program .now in
-    let l = c .before .before .before .before .before .loop in
-    let written = c .before .before .put-number in
-    (omega arith, search needs, written .ensures ∙ words-next (l .i) start (l .program) (l .inv .2))
+    let p = c .before .before in
+    let l = turn p .loop in
+    let start = turn p .before .before .args .program .now in
+    (omega arith, search needs, p .put-number .ensures ∙ words-next (l .i) start (l .program) (l .inv .2))
 
 returns : tie.Need-returns Inv-loop μ-loop
 returns c =

@@ -9,8 +9,12 @@ use Rattle.journal.proofs.Accepted.{back-accepted, back-stood, back-tak
 use Rattle.journal.proofs.back.Statement.{statement}
 use Rattle.journal.proofs.back.Tie as tie
 
+-- where the function started, and where the last entry is taken off
 abbrev start : tie.After-check-back → tie.Start
 start c = c .before .before .before .before .before .before
+
+abbrev taken : tie.After-journal → tie.After-take-back
+taken c = c .before .before .before
 
 abbrev lent : tie.Start → State
 lent s = state (now (s .args .z)) (now (s .args .p))
@@ -33,7 +37,7 @@ take-back-requires c κs =
 
 returns-2 : tie.Need-returns-2
 returns-2 c =
-    let t = c .before .before .before .before in
+    let t = taken (c .before) in
     let e = t .before .before .before in
     let s = start (e .before) in
     back-taken (s .args .k) (lent s) (now (s .args .journal)) _ _ (passed e) (t .take-back .ensures)

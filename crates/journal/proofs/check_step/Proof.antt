@@ -37,8 +37,15 @@ at-end program journal h = rw (le-leb _ _ h)
 inside : (program journal : List ℕ) → positionOf journal < wordsOf (length program) → ended program journal ≡ DONE
 inside program journal h = rw (lt-leb _ _ h)
 
+-- where the function started, from the check of the files, of the program and of the journal
 abbrev start : tie.After-check-files → tie.Start
 start c = c .before .before .before .before .before
+
+abbrev from-program : tie.After-check-program → tie.Start
+from-program c = start (c .before .before)
+
+abbrev from-journal : tie.After-check-journal → tie.Start
+from-journal c = from-program (c .before .before)
 
 -- the answer of the call
 abbrev answer : tie.Start → ℕ
@@ -52,16 +59,16 @@ files-passed c =
     refused-later (filesTests (a .k) (length (now (a .z))) (length (now (a .p)))) tt (listed (a .k) (now (a .program)) (now (a .journal))) _ (c .before .check-files .ensures) (c .if1 .left)
 
 program-passed : (c : tie.Else2) →
-    let s = start (c .before .before .before) in answer s ≡ judged (s .args .k) (now (s .args .program)) (now (s .args .journal))
+    let s = from-program (c .before) in answer s ≡ judged (s .args .k) (now (s .args .program)) (now (s .args .journal))
 program-passed c =
-    let a = start (c .before .before .before) .args in
+    let a = from-program (c .before) .args in
     files-passed (c .before .before)
     ∙ refused-later (programTests (length (now (a .program)))) tt (judged (a .k) (now (a .program)) (now (a .journal))) _ (c .before .check-program .ensures) (c .if2 .left)
 
 journal-passed : (c : tie.Else3) →
-    let s = start (c .before .before .before .before .before) in answer s ≡ ended (now (s .args .program)) (now (s .args .journal))
+    let s = from-journal (c .before) in answer s ≡ ended (now (s .args .program)) (now (s .args .journal))
 journal-passed c =
-    let a = start (c .before .before .before .before .before) .args in
+    let a = from-journal (c .before) .args in
     program-passed (c .before .before)
     ∙ refused-later (journalTests (a .k) (now (a .journal))) tt (ended (now (a .program)) (now (a .journal))) _ (c .before .check-journal .ensures) (c .if3 .left)
 
@@ -73,7 +80,7 @@ returns c =
 
 returns-2 : tie.Need-returns-2
 returns-2 c =
-    let a = start (c .before .before .before) .args in
+    let a = from-program (c .before) .args in
     refused-early (programTests (length (now (a .program)))) tt (judged (a .k) (now (a .program)) (now (a .journal))) _ (c .before .check-program .ensures) (c .if2 .taken)
     ∙ sym (files-passed (c .before .before))
 
@@ -85,25 +92,25 @@ check-journal-requires c κs =
 
 returns-3 : tie.Need-returns-3
 returns-3 c =
-    let a = start (c .before .before .before .before .before) .args in
+    let a = from-journal (c .before) .args in
     refused-early (journalTests (a .k) (now (a .journal))) tt (ended (now (a .program)) (now (a .journal))) _ (c .before .check-journal .ensures) (c .if3 .taken)
     ∙ sym (program-passed (c .before .before))
 
 position-of-requires : tie.Need-position-of-requires
 position-of-requires c κs =
-    let a = start (c .before .before .before .before .before) .args in
+    let a = from-journal (c .before) .args in
     journal-checked (a .k) _ (now (a .journal)) (c .before .check-journal .ensures) (c .if3 .left) .least
 
 returns-4 : tie.Need-returns-4
 returns-4 c =
     let j = c .before .before in
-    let a = start (j .before .before .before .before .before) .args in
+    let a = from-journal (j .before) .args in
     sym (journal-passed j ∙ at-end (now (a .program)) (now (a .journal)) (omega arith))
 
 returns-5 : tie.Need-returns-5
 returns-5 c =
     let j = c .before .before in
-    let a = start (j .before .before .before .before .before) .args in
+    let a = from-journal (j .before) .args in
     sym (journal-passed j ∙ inside (now (a .program)) (now (a .journal)) (omega arith))
 
 pub check-step-spec : {M : Type 1} → statement M

@@ -29,8 +29,12 @@ performed : (f : Fields) (k : ℕ) (s : State) (journal z-after after : List ℕ
 performed f k s journal z-after after h files bytes =
     rw (lt-leb _ _ h) (record { answered = refl; files = ap (λ (z : List ℕ). state z (s .p)) files; bytes = bytes })
 
+-- where the function started, and where the word is carried out
 abbrev start : tie.After-held-of → tie.Start
 start c = c .before .before .before .before .before .before
+
+abbrev carried : tie.After-journal → tie.After-carry-out
+carried c = c .before .before .before
 
 abbrev lent : tie.Start → State
 lent s = state (now (s .args .z)) (now (s .args .p))
@@ -55,7 +59,7 @@ carry-out-requires c κs =
 
 returns-2 : tie.Need-returns-2
 returns-2 c =
-    let x = c .before .before .before .before in
+    let x = carried (c .before) in
     let e = x .before .before .before in
     let s = start (e .before) in
     performed (s .args .f) (s .args .k) (lent s) (now (s .args .journal)) _ _ (fits e) (x .carry-out .ensures .vectors) (x .carry-out .ensures .bytes)

@@ -26,6 +26,13 @@ passed c = c .before .before .before .before
 abbrev first : tie.After-decode → tie.Start
 first c = start (passed c .before)
 
+-- where the word's fields are known, and where it is performed
+abbrev found : tie.After-perform-arg2 → tie.After-decoded
+found c = c .before .before .before
+
+abbrev performed : tie.After-journal → tie.After-perform
+performed c = c .before .before .before
+
 -- past the early refusals
 begun : (c : tie.Else1) → let s = start (c .before) in startRefused (s .args .k) (lent s) (now (s .args .program)) (now (s .args .journal)) ≡ 0
 begun c = sym (c .before .check-step .ensures) ∙ c .if1 .left
@@ -54,12 +61,12 @@ word-at-requires c κs = omega (arith, known (c .before .before) .inside, c .pos
 
 perform-requires : tie.Need-perform-requires
 perform-requires c κs =
-    let d = c .before .before .before .before .before in
+    let f = found c in
+    let d = f .before .before in
     let s = first d in
-    let found = c .before .before .before .decoded in
     let k = known (passed d) in
     record {
-      word = executable (s .args .k) (wordNow (now (s .args .program)) (now (s .args .journal))) (found .given .0 .0) (lent s) (k .sized) (word d ∙ found .given .1);
+      word = executable (s .args .k) (wordNow (now (s .args .program)) (now (s .args .journal))) (f .decoded .given .0 .0) (lent s) (k .sized) (word d ∙ f .decoded .given .1);
       header = k .formed .least;
       few = k .few;
     }
@@ -82,11 +89,11 @@ returns-3 c =
 
 returns-4 : tie.Need-returns-4
 returns-4 c =
-    let done = c .before .before .before .before in
-    let found = done .before .before .before .before .decoded in
-    let d = done .before .before .before .before .before .before in
+    let done = performed (c .before) in
+    let f = found (done .before) in
+    let d = f .before .before in
     let s = first d in
-    word-performed (s .args .k) (lent s) (now (s .args .program)) (now (s .args .journal)) (found .given .0 .0) _ _ _ (begun (passed d)) (word d ∙ found .given .1)
+    word-performed (s .args .k) (lent s) (now (s .args .program)) (now (s .args .journal)) (f .decoded .given .0 .0) _ _ _ (begun (passed d)) (word d ∙ f .decoded .given .1)
     (done .perform .ensures)
 
 pub step-spec : {M : Type 1} → statement M

@@ -20,6 +20,10 @@ start c = c .before .before .before .before
 abbrev first : tie.After-struct-known → tie.Start
 first c = start (c .before .before .before)
 
+-- the files are right where the place is
+abbrev filed : tie.Else2 → tie.Else1
+filed c = c .before .before .before
+
 -- past the first test the files are right, and past the second the place is
 right : (c : tie.Else1) → let a = start (c .before) .args in refused (filesTests (a .k) (length (now (a .z))) (length (now (a .p)))) ≡ 0
 right c = sym (c .before .check-files .ensures) ∙ c .if1 .left
@@ -45,7 +49,7 @@ unfolding widthWithin decimalWidth
 returns-3 c =
     let a = first (c .before .before) .args in
     by-out (a .k) (state (now (a .z)) (now (a .p))) (now (a .program)) (a .position) (a .n)
-    (right (c .before .before .before .before)) (inside (c .before)) (c .if3 .taken)
+    (right (filed (c .before))) (inside (c .before)) (c .if3 .taken)
 
 returns-4 : tie.Need-returns-4
 unfolding widthWithin decimalWidth
@@ -53,7 +57,7 @@ returns-4 c =
     let a = first (c .before .before) .args in
     let next = c .before .before .before .next-word in
     by-none (a .k) (state (now (a .z)) (now (a .p))) (now (a .program)) (a .position) (a .n)
-    (right (c .before .before .before .before)) (next .result) (next .ensures) (c .before .if2 .left) (c .if3 .left)
+    (right (filed (c .before))) (next .result) (next .ensures) (c .before .if2 .left) (c .if3 .left)
 
 pub placed-word-spec : {M : Type 1} → statement M
 placed-word-spec =

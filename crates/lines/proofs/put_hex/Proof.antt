@@ -19,17 +19,24 @@ Inv-loop out₀ at bytes next₀ i₀ out next i = (i ≤ length bytes) × Put o
 abbrev μ-loop : tie.MeasureT-loop
 μ-loop out₀ at bytes next₀ i₀ out next i = i
 
+-- where the function started, and where a turn began whose byte is written next
+abbrev begin : tie.At-loop Inv-loop μ-loop → tie.Start Inv-loop μ-loop
+begin c = c .before .before .before
+
+abbrev turn : tie.After-shared-slice-known2 Inv-loop μ-loop → tie.At-loop Inv-loop μ-loop
+turn c = c .before .before .before
+
 loop-holds : tie.Need-loop-holds Inv-loop μ-loop
 unfolding hexOf
 loop-holds c = (omega arith, rw (drop-length (now (c .before .before .args .bytes))) (put-none _ _))
 
 cast-put-digits : tie.Need-cast-put-digits Inv-loop μ-loop
-cast-put-digits c = omega (arith, c .shared-slice-known2 .given (c .before .before .before .loop .i - 1))
+cast-put-digits c = omega (arith, c .shared-slice-known2 .given (turn c .loop .i - 1))
 
 put-digits-requires : tie.Need-put-digits-requires Inv-loop μ-loop
 put-digits-requires c κs =
-    let l = c .before .before .before .loop in
-    let bytes = now (c .before .before .before .before .before .before .args .bytes) in (
+    let l = turn c .loop in
+    let bytes = now (begin (turn c) .args .bytes) in (
       omega arith,
       omega arith,
       omega (arith, put-length (l .inv .1), l .inv .1 .after, hex-length (drop (l .i) bytes), length-drop (l .i) bytes, hex-length bytes),
@@ -37,8 +44,9 @@ put-digits-requires c κs =
 
 loop-again : tie.Need-loop-again Inv-loop μ-loop
 loop-again c =
-    let l = c .before .before .before .before .before .before .loop in
-    let bytes = now (c .before .before .before .before .before .before .before .before .before .args .bytes) in
+    let t = turn (c .before .before .before) in
+    let l = t .loop in
+    let bytes = now (begin t .args .bytes) in
     (omega arith, rw (hex-next bytes (l .i) (omega arith) (l .inv .0)) (put-then (l .inv .1) (c .before .before .put-digits .ensures)))
 
 returns : tie.Need-returns Inv-loop μ-loop

@@ -16,6 +16,10 @@ use Rattle.lines.proofs.Lines.{named-put}
 use Rattle.lines.proofs.put_text.Statement.{statement}
 use Rattle.lines.proofs.put_text.Tie as tie
 
+-- the text is written, the space is not
+abbrev texted : tie.After-put-arg → tie.After-text
+texted c = c .before .before .before
+
 -- the text is written at the place, and the space fits after it
 named : (c : tie.After-text) → let a = c .before .before .before .args in
     let out = now (a .out) in
@@ -29,10 +33,10 @@ short : (c : tie.After-text) → let a = c .before .before .before .args in a .a
 short c = omega (arith, named c .after, word-length (c .before .before .before .args .word))
 
 put-requires : tie.Need-put-requires
-put-requires c κs = omega (arith, short (c .before .before .before), put-length (named (c .before .before .before)))
+put-requires c κs = omega (arith, short (texted c), put-length (named (texted c)))
 
 returns : tie.Need-returns
-returns c = put-then (named (c .before .before .before .before .before .before)) (c .before .before .put .ensures)
+returns c = put-then (named (texted (c .before .before .before))) (c .before .before .put .ensures)
 
 pub put-text-spec : {M : Type 1} → statement M
 put-text-spec =

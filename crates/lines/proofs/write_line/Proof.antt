@@ -26,10 +26,25 @@ use Rattle.lines.proofs.Placed.{Ready, ready, early, found-right, found
 use Rattle.lines.proofs.write_line.Statement.{statement}
 use Rattle.lines.proofs.write_line.Tie as tie
 
--- where the function started, and the files that it is lent
+-- where the function started
 abbrev start : tie.After-placed-word → tie.Start
 start c = c .before .before .before .before .before
 
+-- past the test of the place: the word that was found, and where the function started
+abbrev found : tie.Else1 → tie.After-placed-word
+found c = c .before .before
+
+abbrev begin : tie.Else1 → tie.Start
+begin c = start (found c)
+
+-- what passed that test, where the word is decoded, and where its fields are known
+abbrev passed : tie.After-decode → tie.Else1
+passed c = c .before .before
+
+abbrev fielded : tie.After-fields → tie.After-decode
+fielded c = c .before .before
+
+-- the files that it is lent, and the room
 abbrev files : tie.Start → State
 files c = state (now (c .args .z)) (now (c .args .p))
 
@@ -37,35 +52,35 @@ abbrev room : tie.Start → ℕ
 room c = length (now (c .args .out))
 
 -- past the first test what the line is asked of is right, and the word that was found is the program's
-placed : (c : tie.Else1) → let s = start (c .before .before) in
+placed : (c : tie.Else1) → let s = begin c in
     refused (placedTests (s .args .k) (files s) (now (s .args .program)) (s .args .position) (room s)) ≡ 0
 placed c =
-    let s = start (c .before .before) in
-    let found = c .before .before .placed-word in
-    found-right (s .args .k) (files s) (now (s .args .program)) (s .args .position) (room s) (found .result) (found .ensures) (c .if1 .left)
+    let s = begin c in
+    let at = found c .placed-word in
+    found-right (s .args .k) (files s) (now (s .args .program)) (s .args .position) (room s) (at .result) (at .ensures) (c .if1 .left)
 
-is-word : (c : tie.Else1) → let s = start (c .before .before) in c .before .before .placed-word .result .word ≡ wordAt (now (s .args .program)) (s .args .position)
+is-word : (c : tie.Else1) → let s = begin c in found c .placed-word .result .word ≡ wordAt (now (s .args .program)) (s .args .position)
 is-word c =
-    let s = start (c .before .before) in
-    let found = c .before .before .placed-word in
-    found-word (s .args .k) (files s) (now (s .args .program)) (s .args .position) (room s) (found .result) (found .ensures) (c .if1 .left)
+    let s = begin c in
+    let at = found c .placed-word in
+    found-word (s .args .k) (files s) (now (s .args .program)) (s .args .position) (room s) (at .result) (at .ensures) (c .if1 .left)
 
-known : (c : tie.Else1) → let s = start (c .before .before) in Ready (s .args .k) (files s) (now (s .args .program)) (s .args .position) (room s)
+known : (c : tie.Else1) → let s = begin c in Ready (s .args .k) (files s) (now (s .args .program)) (s .args .position) (room s)
 known c =
-    let s = start (c .before .before) in
+    let s = begin c in
     ready (s .args .k) (files s) (now (s .args .program)) (s .args .position) (room s) (placed c)
 
 -- of a step that is told done the word decides
-decides : (c : tie.After-decode) → let s = start (c .before .before .before .before) in
+decides : (c : tie.After-decode) → let s = begin (passed c) in
     lineRefused (s .args .k) (files s) (now (s .args .program)) (s .args .position) (s .args .number) (room s) ≡ numberOf (c .decode .result)
 decides c =
-    let s = start (c .before .before .before .before) in
-    word-decides (s .args .k) (files s) (now (s .args .program)) (s .args .position) (room s) (s .args .number) (placed (c .before .before))
-    (c .before .if2 .left) _ (c .decode .result) (is-word (c .before .before)) (c .decode .ensures)
+    let s = begin (passed c) in
+    word-decides (s .args .k) (files s) (now (s .args .program)) (s .args .position) (room s) (s .args .number) (placed (passed c))
+    (c .before .if2 .left) _ (c .decode .result) (is-word (passed c)) (c .decode .ensures)
 
 -- an accepted word's fields, and the register that is shown
-accepted : (c : tie.After-fields) → decoded (c .before .before .before .before .before .before .placed-word .result .word) ≡ Word (c .fields .given .0 .0)
-accepted c = sym (c .before .before .decode .ensures) ∙ c .fields .given .1
+accepted : (c : tie.After-fields) → decoded (found (passed (fielded c)) .placed-word .result .word) ≡ Word (c .fields .given .0 .0)
+accepted c = sym (fielded c .decode .ensures) ∙ c .fields .given .1
 
 returns : tie.Need-returns
 returns c =
@@ -80,21 +95,22 @@ put-refused-requires c κs = le-trans (refused-most _ _ _) (known (c .before .be
 
 returns-2 : tie.Need-returns-2
 returns-2 c =
-    let e = c .before .before .before .before .before .before in
-    let s = start (e .before .before) in
-    let word = e .before .before .placed-word .result .word in
-    let other = c .before .before .before .before .before .if2 .taken in
+    let shown = c .before .before .before in
+    let e = shown .before .before .before in
+    let s = begin e in
+    let word = found e .placed-word .result .word in
+    let other = shown .before .before .if2 .taken in
     written-done _ _ _ (c .done .result) _ (refusedLine (s .args .position) (s .args .number) word) _ (c .done .ensures)
     (refused-passes (s .args .k) (files s) (now (s .args .program)) (s .args .position) (room s) (s .args .number) (placed e) other)
     (refused-line (s .args .k) (files s) (now (s .args .program)) (s .args .position) (s .args .number) word (is-word e) other)
     (le-trans (refused-most (s .args .position) (s .args .number) word) (known e .room))
-    (c .before .before .before .put-refused .ensures)
+    (shown .put-refused .ensures)
 
 -- the destination register lies in the vector file, and is not longer than the longest
-destination : (c : tie.After-known-told) → let s = start (c .before .before .before .before .before .before .before) in
+destination : (c : tie.After-known-told) → let s = begin (passed (fielded (c .before))) in
     InFile (s .args .k) Vector (c .before .fields .given .0 .0 .d) (now (s .args .z))
 destination c =
-    let r = known (c .before .before .before .before .before) .files in
+    let r = known (passed (fielded (c .before))) .files in
     record {
       legal = legal-most _ (r .legal);
       register = decoded-in-range _ _ (accepted (c .before)) .d;
@@ -108,11 +124,11 @@ few c =
 
 put-accepted-requires : tie.Need-put-accepted-requires
 put-accepted-requires c κs =
-    let e = c .before .before .before .before .before .before .before in
-    let s = start (e .before .before) in
+    let e = passed (fielded (c .before .before .before)) in
+    let s = begin e in
     let r = known e in
     let position : s .args .position ≤ mostWords = omega (arith, r .inside) in
-    let word = e .before .before .placed-word .result .word in (
+    let word = found e .placed-word .result .word in (
       omega (arith, r .room, accepted-room (s .args .position) position),
       omega (arith, r .room, few (c .before), accepted-most (s .args .position) position word (now (c .before .register .result))),
     )
@@ -129,18 +145,19 @@ returns-4 c =
 
 returns-5 : tie.Need-returns-5
 returns-5 c =
-    let shown = c .before .before .before .before .before in
-    let e = shown .before .before .before .before .before .before in
-    let s = start (e .before .before) in
+    let put = c .before .before .before in
+    let shown = put .before .before in
+    let d = fielded (shown .before .before) in
+    let e = passed d in
+    let s = begin e in
     let r = known e in
-    let word = e .before .before .placed-word .result .word in
-    let told = shown .before .before .before .before .before .if2 .left in
+    let word = found e .placed-word .result .word in
     written-done _ _ _ (c .done2 .result) _ (acceptedLine (s .args .position) word (now (shown .register .result))) _ (c .done2 .ensures)
-    (decides (shown .before .before .before .before) ∙ ap numberOf (shown .before .before .fields .given .1))
-    (accepted-line (s .args .k) (files s) (now (s .args .program)) (s .args .position) (s .args .number) word (is-word e) told _
+    (decides d ∙ ap numberOf (shown .before .before .fields .given .1))
+    (accepted-line (s .args .k) (files s) (now (s .args .program)) (s .args .position) (s .args .number) word (is-word e) (d .before .if2 .left) _
     (accepted (shown .before .before)) _ (shown .register .ensures))
     (omega (arith, r .room, few shown, accepted-most (s .args .position) (omega (arith, r .inside)) word (now (shown .register .result))))
-    (c .before .before .before .put-accepted .ensures)
+    (put .put-accepted .ensures)
 
 pub write-line-spec : {M : Type 1} → statement M
 write-line-spec =

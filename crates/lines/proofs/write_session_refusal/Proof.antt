@@ -11,6 +11,10 @@ use Rattle.lines.proofs.Lines.{written-refused, written-done}
 use Rattle.lines.proofs.write_session_refusal.Statement.{statement}
 use Rattle.lines.proofs.write_session_refusal.Tie as tie
 
+-- there is room, and the number is written
+abbrev roomy : tie.After-put-field → tie.Else1
+roomy c = c .before .before
+
 returns : tie.Need-returns
 unfolding widthWithin decimalWidth
 returns c = written-refused _ _ _ (c .refuse .result) OUT (c .refuse .ensures) (rw (lt-ltb _ _ (c .before .if1 .taken))) (λ e. omega arith)
@@ -22,8 +26,8 @@ put-field-requires c κs = omega arith
 returns-2 : tie.Need-returns-2
 unfolding sessionLine digitsIn widthWithin decimalWidth
 returns-2 c =
-    let room = c .before .before .before .before .before .if1 .left in
-    written-done _ _ _ (c .done .result) _ sessionLine _ (c .done .ensures) (rw (le-ltb _ _ room)) refl (omega arith) (c .before .before .before .put-field .ensures)
+    let field = c .before .before .before in
+    written-done _ _ _ (c .done .result) _ sessionLine _ (c .done .ensures) (rw (le-ltb _ _ (roomy field .if1 .left))) refl (omega arith) (field .put-field .ensures)
 
 pub write-session-refusal-spec : {M : Type 1} → statement M
 write-session-refusal-spec =

@@ -7,9 +7,13 @@ use Rattle.meaning.proofs.Sizes.{vector-in}
 use Rattle.plain.proofs.walk_fields.Statement.{statement}
 use Rattle.plain.proofs.walk_fields.Tie as tie
 
+-- where the function started
+abbrev begin : tie.After-register-arg → tie.Start
+begin c = c .before .before .before .before
+
 register-requires : tie.Need-register-requires
 register-requires c κs =
-    let s = c .before .before .before .before in
+    let s = begin c in
     vector-in (s .args .f) (s .args .k) (state (now (s .args .z)) (now (s .args .p))) (s .pre) (s .args .f .d) (s .pre .fields .d)
 
 pub walk-fields-spec : {M : Type 1} → statement M

@@ -8,19 +8,20 @@ use Rattle.words.proofs.Encoding.{decoded-in-range}
 use Rattle.plain.proofs.walk_word.Statement.{statement}
 use Rattle.plain.proofs.walk_word.Tie as tie
 
+-- where the function started
 abbrev start : tie.After-check-files → tie.Start
 start c = c .before .before .before .before .before
 
 -- the files passed their check, and the word decodes to its fields
 walk-fields-requires : tie.Need-walk-fields-requires
 walk-fields-requires c κs =
-    let found = c .before .before .before .decoded in
-    let decode = c .before .before .before .before .before in
+    let found = c .before .before .before in
+    let decode = found .before .before in
     let files = decode .before .before in
     let a = start files .args in
     record {
       lent = files-checked (a .k) (now (a .z)) (now (a .p)) _ (files .check-files .ensures) (decode .before .if1 .left);
-      fields = decoded-in-range (a .word) _ (sym (decode .decode .ensures) ∙ found .given .1);
+      fields = decoded-in-range (a .word) _ (sym (decode .decode .ensures) ∙ found .decoded .given .1);
     }
 
 pub walk-word-spec : {M : Type 1} → statement M

@@ -12,12 +12,16 @@ use Rattle.session.specs.Layout.{mark, markBytes, sessionMark}
 use Rattle.session.proofs.is_headed.Statement.{statement}
 use Rattle.session.proofs.is_headed.Tie as tie
 
+-- where the function started
+abbrev begin : tie.After-same-arg → tie.Start
+begin c = c .before .before
+
 -- the answer of the comparison
-marked : (c : tie.After-same) → c .same .result ≡ sameBytes (sessionMark (now (c .before .before .before .before .args .bytes))) mark
+marked : (c : tie.After-same) → c .same .result ≡ sameBytes (sessionMark (now (begin (c .before .before) .args .bytes))) mark
 marked c = same-exactly (c .same .result) _ _ (c .same .ensures .0) (c .same .ensures .1)
 
 slice-aggregate-same : tie.Need-slice-aggregate-same
-slice-aggregate-same c = sym (length-take-le markBytes (now (c .before .before .args .bytes)) (omega arith))
+slice-aggregate-same c = sym (length-take-le markBytes (now (begin c .args .bytes)) (omega arith))
 
 returns : tie.Need-returns
 returns c = rw (sym (marked (c .before)) ∙ not-true _ (c .if1 .taken))

@@ -19,15 +19,19 @@ use Rattle.session.proofs.read_session.Tie as tie
 abbrev input : tie.Else1 → List ℕ
 input c = now (c .before .before .args .bytes)
 
+-- past the second test the first is passed
+abbrev passed : tie.Else2 → tie.Else1
+passed c = c .before .before
+
 -- past the first test there is a header, and past the second its mark and version are right
 header : (c : tie.Else1) → leb sessionHeader (length (input c)) ≡ true
 header c = le-leb _ _ (c .if1 .left)
 
-headed : (c : tie.Else2) → isHeaded (input (c .before .before)) ≡ true
+headed : (c : tie.Else2) → isHeaded (input (passed c)) ≡ true
 headed c = sym (c .before .is-headed .ensures) ∙ not-false _ (c .if2 .left)
 
 -- the third test is that of the sizes that the header gives
-tested : (c : tie.After-is-sized) → let l = input (c .before .before .before .before .before) in c .is-sized .result ≡ isSized (sessionLength l) (wordCount l) (length l)
+tested : (c : tie.After-is-sized) → let l = input (passed (c .before .before .before)) in c .is-sized .result ≡ isSized (sessionLength l) (wordCount l) (length l)
 tested c = c .is-sized .ensures ∙ rw (c .before .before .number-at .ensures, c .before .number-at2 .ensures)
 
 returns : tie.Need-returns
@@ -43,28 +47,31 @@ returns-2 c =
 returns-3 : tie.Need-returns-3
 unfolding sessionOf
 returns-3 c =
-    let past = c .before .before .before .before .before in
+    let tests = c .before .before in
+    let past = tests .before .before .before in
     c .refuse3 .ensures
-    ∙ rw (header (past .before .before), headed past, sym (tested (c .before .before)) ∙ not-true _ (c .before .if3 .taken))
+    ∙ rw (header (passed past), headed past, sym (tested tests) ∙ not-true _ (c .before .if3 .taken))
 
 placed-requires : tie.Need-placed-requires
 placed-requires c κs =
-    let n = length (input (c .before .before .before .before .before .before)) in
-    let k = c .before .before .before .number-at .result in
-    let s = sized k (c .before .before .number-at2 .result) n (sym (c .before .is-sized .ensures) ∙ not-false _ (c .if3 .left)) in
+    let tests = c .before in
+    let n = length (input (passed (tests .before .before .before))) in
+    let k = tests .before .before .number-at .result in
+    let s = sized k (tests .before .number-at2 .result) n (sym (tests .is-sized .ensures) ∙ not-false _ (c .if3 .left)) in
     (legal-most _ (s .legal), s .few)
 
 returns-4 : tie.Need-returns-4
 unfolding sessionOf
 returns-4 c =
-    let past = c .before .before .before .before .before in
+    let tests = c .before .before in
+    let past = tests .before .before .before in
     c .placed .ensures
     ∙ rw (
-      header (past .before .before),
+      header (passed past),
       headed past,
-      sym (tested (c .before .before)) ∙ not-false _ (c .before .if3 .left),
-      c .before .before .before .before .number-at .ensures,
-      c .before .before .before .number-at2 .ensures,
+      sym (tested tests) ∙ not-false _ (c .before .if3 .left),
+      tests .before .before .number-at .ensures,
+      tests .before .number-at2 .ensures,
     )
 
 pub read-session-spec : {M : Type 1} → statement M

@@ -14,12 +14,19 @@ use Rattle.texts.proofs.show_word.Tie as tie
 short : (c : tie.After-text) → c .text .result .value ≤ mostText
 short c = named-most _ _ _ _ (c .text .ensures)
 
+-- where the text is written, and where it is told done
+abbrev named : tie.Then1 → tie.After-text
+named c = c .before .before .before .before .before .before .before .before
+
+abbrev done : tie.After-assemble → tie.Then1
+done c = c .before .before
+
 -- the naming, from where the text is assembled and from where it is shown
 assembled : tie.Need-array-share-prefix-out
-assembled c = omega (arith, short (c .before .before .before .before .before .before .before .before))
+assembled c = omega (arith, short (named c))
 
 shown : tie.Need-array-share-prefix-out-2
-shown c = omega (arith, short (c .before .before .before .before .before .before .before .before .before .before .before .before))
+shown c = omega (arith, short (named (done (c .before .before))))
 
 pub show-word-spec : {M : Type 1} → statement M
 show-word-spec =

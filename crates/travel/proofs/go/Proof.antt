@@ -7,6 +7,7 @@ use Rattle.travel.proofs.Directed.{gone-back, gone-forward}
 use Rattle.travel.proofs.go.Statement.{statement}
 use Rattle.travel.proofs.go.Tie as tie
 
+-- where the function started, and where the step back or forward is taken
 abbrev start : tie.After-slice-known2 → tie.Start
 start c = c .before .before .before .before
 

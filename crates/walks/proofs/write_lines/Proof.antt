@@ -30,9 +30,15 @@ Inv-loop out₀ k z₀ p program journal₀ at₀ position₀ out z journal at p
 abbrev μ-loop : tie.MeasureT-loop
 μ-loop out₀ k z₀ p program journal₀ at₀ position₀ out z journal at position = mostWords - position
 
--- the loop's place from that of its turn, and where the function started
+-- where the step of a turn is done, and before it the turn's begin, the loop's place and where the function started
+abbrev turned : tie.After-struct-known Inv-loop μ-loop → tie.After-step-line Inv-loop μ-loop
+turned c = c .before .before .before .before .before .before .before
+
+abbrev in-loop : tie.After-step-line Inv-loop μ-loop → tie.In-loop Inv-loop μ-loop
+in-loop c = c .before .before .before .before
+
 abbrev loop : tie.After-step-line Inv-loop μ-loop → tie.At-loop Inv-loop μ-loop
-loop c = c .before .before .before .before .before
+loop c = in-loop c .before
 
 abbrev start : tie.After-step-line Inv-loop μ-loop → tie.Start Inv-loop μ-loop
 start c = loop c .before .before .before .before .before .before
@@ -46,20 +52,20 @@ loop-holds c = (omega arith, omega arith, refl, refl, refl, λ m r h. h)
 
 returns : tie.Need-returns Inv-loop μ-loop
 returns c =
-    let t = c .before .before .before .before .before .before .before .before in
+    let t = turned (c .before) in
     let l = loop t .loop in
     let a = start t .args in
     let turn = t .step-line .ensures in
     l .inv .5 _ _
     (rw (
-      left (l .position) (t .before .before .before .before .loop-test .taken),
+      left (l .position) (in-loop t .loop-test .taken),
       lines-end _ (a .k) (now (a .program)) (l .position) (state (l .z) (now (a .p))) _ (l .journal) _ _ (turn .stepped) (c .if1 .taken),
     )
     (turn .shown))
 
 loop-again : tie.Need-loop-again Inv-loop μ-loop
 loop-again c =
-    let t = c .before .before .before .before .before .before .before .before in
+    let t = turned (c .before) in
     let l = loop t .loop in
     let a = start t .args in
     let turn = t .step-line .ensures in
@@ -71,7 +77,7 @@ loop-again c =
       search needs,
       λ m r h. l .inv .5 m r
           (rw (
-            left (l .position) (t .before .before .before .before .loop-test .taken),
+            left (l .position) (in-loop t .loop-test .taken),
             lines-more _ (a .k) (now (a .program)) (l .position) files _ (l .journal) _ _ (turn .stepped) (c .if1 .left),
           )
           (put-then (turn .shown) h)),

@@ -18,8 +18,12 @@ use Rattle.walks.proofs.Outputs.{lines-most, walk-room, output-session,
 use Rattle.walks.proofs.write_output.Statement.{statement}
 use Rattle.walks.proofs.write_output.Tie as tie
 
+-- where the function started
+abbrev begin : tie.Else1 → tie.Start
+begin c = c .before .before .before
+
 -- past the first test the output has room
-room : (c : tie.Else1) → mostOutput ≤ length (now (c .before .before .before .args .out))
+room : (c : tie.Else1) → mostOutput ≤ length (now (begin c .args .out))
 unfolding widthWithin decimalWidth
 room c = c .if1 .left
 
@@ -34,24 +38,26 @@ write-session-requires c κs =
 
 returns-2 : tie.Need-returns-2
 returns-2 c =
-    let past = c .before .before .before .before in
+    let refused = c .before .before in
+    let past = refused .before .before in
     let read = past .before .before in
-    let input = now (read .before .before .before .before .args .bytes) in
-    let line : mostLine ≤ length (now (read .before .before .before .before .args .out)) = omega (arith, room (read .before)) in
+    let input = now (begin (read .before) .args .bytes) in
+    let line : mostLine ≤ length (now (begin (read .before) .args .out)) = omega (arith, room (read .before)) in
     rw (le-ltb _ _ (room (read .before)), output-none input _ (read .read-session .ensures) (past .if2 .taken))
-    (rw (le-ltb _ _ line) at (c .before .before .write-session-refusal .ensures))
+    (rw (le-ltb _ _ line) at (refused .write-session-refusal .ensures))
 
 returns-3 : tie.Need-returns-3
 returns-3 c =
-    let past = c .before .before .before .before in
+    let written = c .before .before in
+    let past = written .before .before in
     let read = past .before .before in
-    let input = now (read .before .before .before .before .args .bytes) in
+    let input = now (begin (read .before) .args .bytes) in
     let s = read .read-session .result in
     let fits = lines-most mostWords (s .k) (programPart s input) 0 (sessionState s input) (walkJournal (s .k)) in
     written-done _ _ _ _ _ (sessionLines s input) _ refl (rw (le-ltb _ _ (room (read .before))))
     (output-session input s (read .read-session .ensures) (past .if2 .left))
     (omega (arith, fits, walk-room (s .k), room (read .before)))
-    (c .before .before .write-session .ensures)
+    (written .write-session .ensures)
 
 pub write-output-spec : {M : Type 1} → statement M
 write-output-spec =

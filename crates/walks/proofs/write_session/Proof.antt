@@ -8,28 +8,32 @@ use Rattle.session.proofs.Reading.{session-parts}
 use Rattle.walks.proofs.write_session.Statement.{statement}
 use Rattle.walks.proofs.write_session.Tie as tie
 
+-- where the function started
+abbrev begin : tie.After-write-walk-arg → tie.Start
+begin c = c .before .before .before
+
 -- the session's parts
 parts : (c : tie.Start) → Parts (now (c .args .bytes)) (c .args .session)
 parts c = session-parts (now (c .args .bytes)) (c .args .session) (c .pre .reading) (c .pre .done)
 
 write-walk-requires : tie.Need-write-walk-requires
 write-walk-requires c κs =
-    let s = c .before .before .before .before .before .before in
+    let s = begin (c .before .before .before) in
     record { files = parts s .files; room = s .pre .room }
 
 pub write-session-spec : {M : Type 1} → statement M
 write-session-spec =
     tie.close
     (tie.spec
-    (λ c. omega (arith, parts (c .before .before .before)))
-    (λ c. omega (arith, parts (c .before .before .before)))
-    (λ c. omega (arith, parts (c .before .before .before)))
-    (λ c. omega (arith, parts (c .before .before .before .before)))
-    (λ c. omega (arith, parts (c .before .before .before .before)))
-    (λ c. omega (arith, parts (c .before .before .before .before)))
-    (λ c. omega (arith, parts (c .before .before .before .before .before)))
-    (λ c. omega (arith, parts (c .before .before .before .before .before)))
-    (λ c. omega (arith, parts (c .before .before .before .before .before)))
+    (λ c. omega (arith, parts (begin c)))
+    (λ c. omega (arith, parts (begin c)))
+    (λ c. omega (arith, parts (begin c)))
+    (λ c. omega (arith, parts (begin (c .before))))
+    (λ c. omega (arith, parts (begin (c .before))))
+    (λ c. omega (arith, parts (begin (c .before))))
+    (λ c. omega (arith, parts (begin (c .before .before))))
+    (λ c. omega (arith, parts (begin (c .before .before))))
+    (λ c. omega (arith, parts (begin (c .before .before))))
     write-walk-requires
     (λ c. search needs)
     (λ c. search needs))

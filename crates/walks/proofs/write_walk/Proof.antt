@@ -12,12 +12,19 @@ use Rattle.walks.proofs.Outputs.{copied-is, fresh-is}
 use Rattle.walks.proofs.write_walk.Statement.{statement}
 use Rattle.walks.proofs.write_walk.Tie as tie
 
+-- where the copy is made, and before it the fresh journal
+abbrev copy : tie.After-journal3 → tie.After-copy
+copy c = c .before .before .before .before
+
+abbrev renewed : tie.After-file → tie.After-fresh
+renewed c = c .before .before .before
+
 -- where the function started, from the fresh journal and from the copy
 abbrev start : tie.After-fresh → tie.Start
 start c = c .before .before .before .before .before .before .before
 
 abbrev first : tie.After-copy → tie.Start
-first c = start (c .before .before .before .before)
+first c = start (renewed (c .before))
 
 -- the fresh journal, the copy of the vector file, and its size
 made : (c : tie.After-fresh) → c .fresh .last .1 .0 ≡ walkJournal (start c .args .k)
@@ -32,7 +39,7 @@ sized c = c .copy .ensures .0 ∙ sym (ap length (copied c))
 
 copy-requires : tie.Need-copy-requires
 copy-requires c κs =
-    let s = start (c .before .before .before) in
+    let s = start (renewed c) in
     omega (arith, c .before .file-room .ensures, s .pre .files .vectorSize, legal-most (s .args .k) (s .pre .files .legal))
 
 array-borrow-prefix-file : tie.Need-array-borrow-prefix-file
@@ -42,8 +49,9 @@ array-borrow-prefix-file c =
 
 returns : tie.Need-returns
 returns c =
-    let copy = c .before .before .before .before .before .before .before .before .before in
-    rw (made (copy .before .before .before .before), copied copy) at (c .before .before .before .before .write-lines .ensures)
+    let out = c .before .before .before in
+    let f = copy (out .before .before) in
+    rw (made (renewed (f .before)), copied f) at (out .before .write-lines .ensures)
 
 pub write-walk-spec : {M : Type 1} → statement M
 write-walk-spec =
