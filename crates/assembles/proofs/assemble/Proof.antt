@@ -13,12 +13,22 @@ use borrow.Author.Needs.{needs}
 use Rattle.assembles.proofs.assemble.Statement.{statement}
 use Rattle.assembles.proofs.assemble.Tie as tie
 
+-- the places: the start, and where the word is made and where its text is
+abbrev start : tie.After-encode → tie.Start
+start c = c .before .before .before
+
+abbrev made : tie.After-text → tie.After-encode
+made c = c .before .before
+
+abbrev written : tie.After-struct-known → tie.After-text
+written c = c .before .before
+
 -- a text is shorter than the line
 short : (c : tie.After-text) → c .text .result .value ≤ mostText
 short c = named-most _ _ _ _ (c .text .ensures)
 
 -- the word is the one that is read
-read : (c : tie.After-encode) → c .encode .result ≡ wordOf (fieldsFrom (c .before .before .before .args .text .now))
+read : (c : tie.After-encode) → c .encode .result ≡ wordOf (fieldsFrom (start c .args .text .now))
 read c = c .encode .ensures ∙ ap wordOf (c .before .read-fields .ensures)
 
 -- an answer is not both
@@ -26,40 +36,33 @@ not-both : true ≡ false → ⊥
 not-both e = let z : _≡_ {A = ℕ} 0 1 = cc in omega arith
 
 array-share-prefix-line : tie.Need-array-share-prefix-line
-array-share-prefix-line c = omega (arith, short (c .before .before .before))
+array-share-prefix-line c = omega (arith, short (written (c .before)))
 
 slice-aggregate-same : tie.Need-slice-aggregate-same
-slice-aggregate-same c = sym (length-take-le _ _ (omega (arith, short (c .before .before .before .before))))
+slice-aggregate-same c = sym (length-take-le _ _ (omega (arith, short (written (c .before .before)))))
 
 returns : tie.Need-returns
 returns c =
-    let same = c .before .same in
-    let if1 = c .before .before .before .if1 in
-    let text = c .before .before .before .before .before .before .text in
-    let encode = c .before .before .before .before .before .before .before .before .encode in
-    let read-fields = c .before .before .before .before .before .before .before .before .before .read-fields in
-    let at-args = c .before .before .before .before .before .before .before .before .before .before .before in
-    let args = at-args .args in
+    let named = c .before .before .before in
+    let w = written (named .before) in
+    let word = made w in
     assembled-done _ _
-    (checked (args .text .now) _ _ _ _ (rw (encode .ensures) (word-below (read-fields .result))) (text .ensures) (if1 .taken)
-    (same .ensures .0 (c .if2 .taken)))
+    (checked (start word .args .text .now) _ _ _ _ (rw (word .encode .ensures) (word-below (word .before .read-fields .result))) (w .text .ensures) (named .if1 .taken)
+    (c .before .same .ensures .0 (c .if2 .taken)))
 
 returns-2 : tie.Need-returns-2
 returns-2 c =
-    let same = c .before .same in
-    let text = c .before .before .before .before .before .before .text in
-    let at-args = c .before .before .before .before .before .before .before .before .before .before .before in
-    let args = at-args .args in
+    let named = c .before .before .before in
+    let w = written (named .before) in
     assembled-none _
-    (unchecked (args .text .now) _ _ _ _ (read (c .before .before .before .before .before .before .before .before)) (omega arith) (text .ensures)
-    (λ n e. not-both (sym (same .ensures .1 e) ∙ c .if2 .left)))
+    (unchecked (start (made w) .args .text .now) _ _ _ _ (read (made w)) (omega arith) (w .text .ensures)
+    (λ n e. not-both (sym (c .before .same .ensures .1 e) ∙ c .if2 .left)))
 
 returns-3 : tie.Need-returns-3
 returns-3 c =
-    let text = c .before .before .before .text in
-    let args = c .before .before .before .before .before .before .before .before .args in
+    let w = written (c .before) in
     assembled-none _
-    (unchecked (args .text .now) _ _ _ _ (read (c .before .before .before .before .before)) (omega arith) (text .ensures) (λ n e. c .if1 .left n))
+    (unchecked (start (made w) .args .text .now) _ _ _ _ (read (made w)) (omega arith) (w .text .ensures) (λ n e. c .if1 .left n))
 
 pub assemble-spec : {M : Type 1} → statement M
 assemble-spec =

@@ -7,24 +7,27 @@ use borrow.Author.Needs.{needs}
 use Rattle.assembles.proofs.number_at.Statement.{statement}
 use Rattle.assembles.proofs.number_at.Tie as tie
 
+-- where the function starts, and where the first byte is read
+abbrev start : tie.After-byte-at → tie.Start
+start c = c .before .before
+
+abbrev first : tie.After-is-digit → tie.After-byte-at
+first c = c .before .before
+
 returns : tie.Need-returns
 returns c =
-    let worth = c .before .worth in
-    let if1 = c .before .before .if1 in
-    let is-digit = c .before .before .before .is-digit in
-    let byte-at2 = c .before .before .before .before .byte-at2 in
-    let byte-at = c .before .before .before .before .before .byte-at in
-    let args = c .before .before .before .before .before .before .before .args in
-    number-is (args .text .now) (args .at) _ _ _ _ true (byte-at .ensures) (byte-at2 .ensures) (sym (if1 .taken) ∙ is-digit .ensures) (worth .ensures) (c .worth2 .ensures)
+    let digit = c .before .before in
+    let tested = digit .before in
+    let args = start (first tested) .args in
+    number-is (args .text .now) (args .at) _ _ _ _ true (first tested .byte-at .ensures) (tested .before .byte-at2 .ensures)
+    (sym (digit .if1 .taken) ∙ tested .is-digit .ensures) (c .before .worth .ensures) (c .worth2 .ensures)
 
 returns-2 : tie.Need-returns-2
 returns-2 c =
-    let if1 = c .before .if1 in
-    let is-digit = c .before .before .is-digit in
-    let byte-at2 = c .before .before .before .byte-at2 in
-    let byte-at = c .before .before .before .before .byte-at in
-    let args = c .before .before .before .before .before .before .args in
-    number-is (args .text .now) (args .at) _ _ _ _ false (byte-at .ensures) (byte-at2 .ensures) (sym (if1 .left) ∙ is-digit .ensures) (c .worth3 .ensures) refl
+    let tested = c .before .before in
+    let args = start (first tested) .args in
+    number-is (args .text .now) (args .at) _ _ _ _ false (first tested .byte-at .ensures) (tested .before .byte-at2 .ensures)
+    (sym (c .before .if1 .left) ∙ tested .is-digit .ensures) (c .worth3 .ensures) refl
 
 pub number-at-spec : {M : Type 1} → statement M
 number-at-spec =

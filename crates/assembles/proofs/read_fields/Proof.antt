@@ -20,7 +20,7 @@ read-is : (text : List ℕ) (row first second third size a b c q : ℕ) (family 
     → q ≡ qIn size text → family ≡ familyOf row → byFamily row family size a b c q ≡ fieldsFrom text
 read-is text row first second third size a b c q family hr p₁ p₂ p₃ hs ha hb hc hq hf = rw (hf, hq, ha, hb, hc, p₃, p₂, p₁, hs, hr)
 
--- the places: where the size, the last number and the last operand's place are read, and the start
+-- the places: where the size, the last number, the last operand's place and the row are read, and the start
 abbrev sized : tie.After-q-in → tie.After-size-in
 sized c = c .before .before
 
@@ -30,8 +30,11 @@ numbered c = c .before
 abbrev placed : tie.After-number-at3 → tie.After-past-space3
 placed c = c .before .before .before
 
+abbrev rowed : tie.After-past-space3 → tie.After-row-named
+rowed c = c .before .before .before
+
 abbrev start : tie.After-size-in → tie.Start
-start c = placed (numbered c) .before .before .before .before .before
+start c = rowed (placed (numbered c)) .before .before
 
 by-family-requires : tie.Need-by-family-requires
 by-family-requires c κs = rw (c .before .before .size-in .ensures) (place-most (fromEnd (start (sized c) .args .text .now) 1) letters)
@@ -44,7 +47,7 @@ returns c =
     c .by-family .ensures
     ∙ read-is (start size .args .text .now) _ (places .before .before .past-space .result) (places .before .past-space2 .result) (places .past-space3 .result)
     _ _ _ _ _ _
-    (places .before .before .before .row-named .ensures)
+    (rowed places .row-named .ensures)
     (places .before .before .past-space .ensures .rest)
     (places .before .past-space2 .ensures .rest)
     (places .past-space3 .ensures .rest)

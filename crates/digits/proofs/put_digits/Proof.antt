@@ -27,8 +27,9 @@ digit-requires c κs = omega (arith, mod-lt (c .before .loop .rest) (c .before .
 
 loop-again : tie.Need-loop-again Inv-loop μ-loop
 loop-again c =
-    let a = c .before .before .before .before .args in
-    let l = c .before .before .loop in
+    let turn = c .before .before in
+    let a = turn .before .before .args in
+    let l = turn .loop in
     (omega arith, simp length-set (l .inv .1), digits-next (l .out) (a .at) (a .base) (l .i) (l .rest) (c .digit .result) (c .before .loop-test .taken) (c .digit .ensures) ∙ l .inv .2)
 
 same-length : tie.Need-same-length Inv-loop μ-loop

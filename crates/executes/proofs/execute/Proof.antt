@@ -19,18 +19,24 @@ use Rattle.meaning.proofs.Sizes.{k-least, vector-in, low-written-fits}
 use Rattle.executes.proofs.execute.Statement.{statement}
 use Rattle.executes.proofs.execute.Tie as tie
 
--- where the low bytes come from, and what family the word is of
-abbrev low-start : tie.After-low-bytes → tie.Start
-low-start c = c .before .before .before .before .before .before .before .before
+-- where the word is lent, where its family is known to be a low one, and what family it is of
+abbrev start : tie.After-form-of → tie.Start
+start c = c .before .before .before
 
-low-is : (c : tie.After-family) → familyOf (c .before .before .before .before .before .args .f .row) ≡ Low (c .family .given .0 .0)
+abbrev low : tie.After-low-bytes → tie.After-family
+low c = c .before .before .before
+
+abbrev low-start : tie.After-low-bytes → tie.Start
+low-start c = start (low c .before .before)
+
+low-is : (c : tie.After-family) → familyOf (start (c .before .before) .args .f .row) ≡ Low (c .family .given .0 .0)
 low-is c = sym (ap (λ (form : Form). form .family) (c .before .before .form-of .ensures)) ∙ c .family .given .1
 
-wide-is : (c : tie.After-family2) → familyOf (c .before .before .before .before .before .args .f .row) ≡ Wide (c .family2 .given .0 .0)
+wide-is : (c : tie.After-family2) → familyOf (start (c .before .before) .args .f .row) ≡ Wide (c .family2 .given .0 .0)
 wide-is c = sym (ap (λ (form : Form). form .family) (c .before .before .form-of .ensures)) ∙ c .family2 .given .1
 
 -- its parameters are its form's
-parameters-are : (c : tie.After-form-of) → c .form-of .result .parameters ≡ formOf (c .before .before .before .args .f .row) .parameters
+parameters-are : (c : tie.After-form-of) → c .form-of .result .parameters ≡ formOf (start c .args .f .row) .parameters
 parameters-are c = ap (λ (form : Form). form .parameters) (c .form-of .ensures)
 
 -- what is written
@@ -39,16 +45,16 @@ writes s = writtenFor (s .args .f) (s .args .k) (state (s .args .z .now) (s .arg
 
 -- by a low family it lies in sixteen bytes
 low-fits : (c : tie.After-low-bytes) → length (writes (low-start c)) ≤ segmentBytes
-low-fits c = low-written-fits _ _ _ (low-start c .pre) _ (low-is (c .before .before .before))
+low-fits c = low-written-fits _ _ _ (low-start c .pre) _ (low-is (low c))
 
 low-sized : (c : tie.After-low-bytes) → length (c .low-bytes .result) ≡ segmentBytes
 low-sized c = ap length (c .low-bytes .ensures) ∙ length-padded segmentBytes (writes (low-start c)) (low-fits c)
 
 low-bytes-requires : tie.Need-low-bytes-requires
-low-bytes-requires c κs = (
-  record { word = c .before .before .before .before .before .before .before .pre; is = low-is (c .before .before) },
-  parameters-are (c .before .before .before .before),
-)
+low-bytes-requires c κs =
+    let told = c .before .before in
+    let form = told .before .before in
+    (record { word = start form .pre; is = low-is told }, parameters-are form)
 
 write-register-requires : tie.Need-write-register-requires
 write-register-requires c κs =
@@ -56,16 +62,17 @@ write-register-requires c κs =
     (vector-in _ _ _ h _ (h .fields .d), omega (arith, low-sized (c .before .before), k-least _ _ _ h))
 
 write-lanes-requires : tie.Need-write-lanes-requires
-write-lanes-requires c κs = (
-  record { word = c .before .before .before .before .before .before .before .pre; is = wide-is (c .before .before) },
-  parameters-are (c .before .before .before .before),
-)
+write-lanes-requires c κs =
+    let told = c .before .before in
+    let form = told .before .before in
+    (record { word = start form .pre; is = wide-is told }, parameters-are form)
 
 returns : tie.Need-returns
 returns c =
-    let w = c .before .before .before .before .before in
+    let register = c .before .before in
+    let w = register .before .before .before in
     let a = low-start w .args in
-    c .before .before .write-register .ensures
+    register .write-register .ensures
     ∙ ap (λ (bytes : List ℕ). withVector (a .k) (a .f .d) bytes (a .z .now))
     (ap (padded (vectorBytes (a .k))) (w .low-bytes .ensures) ∙ padded-padded segmentBytes (vectorBytes (a .k)) (writes (low-start w)) (low-fits w) (omega (arith, k-least _ _ _ (low-start w .pre))))
 

@@ -11,12 +11,19 @@ use Rattle.machine.proofs.Checks.{legal-most}
 use Rattle.machine.proofs.check_files.Statement.{statement}
 use Rattle.machine.proofs.check_files.Tie as tie
 
+-- where the function starts, and where the first test is past
+abbrev start : tie.After-is-legal → tie.Start
+start c = c .before .before .before
+
+abbrev passed : tie.After-predicate-file → tie.Else1
+passed c = c .before .before .before
+
 -- past the first test the length is legal
-legal : (c : tie.Else1) → isLegal (c .before .before .before .before .args .k) ≡ true
+legal : (c : tie.Else1) → isLegal (start (c .before) .args .k) ≡ true
 legal c = sym (c .before .is-legal .ensures) ∙ not-false _ (c .if1 .left)
 
 -- past the second test the vector file has its size
-vectors-fit : (c : tie.Else2) → length (now (c .before .before .before .before .before .before .args .z)) ≡ vectorFile (c .before .before .before .before .before .before .args .k)
+vectors-fit : (c : tie.Else2) → let a = start (c .before .before .before) .args in length (now (a .z)) ≡ vectorFile (a .k)
 vectors-fit c = c .if2 .left ∙ c .before .vector-file .ensures
 
 returns : tie.Need-returns
@@ -35,7 +42,7 @@ predicate-file-requires c κs = legal-most _ (legal (c .before .before))
 returns-3 : tie.Need-returns-3
 returns-3 c =
     rw (
-      legal (c .before .before .before .before),
+      legal (passed (c .before)),
       eq-eqb _ _ (vectors-fit (c .before .before)),
       ne-eqb _ _ (λ e. c .if3 .taken (e ∙ sym (c .before .predicate-file .ensures))),
     )
@@ -43,7 +50,7 @@ returns-3 c =
 returns-4 : tie.Need-returns-4
 returns-4 c =
     rw (
-      legal (c .before .before .before .before),
+      legal (passed (c .before)),
       eq-eqb _ _ (vectors-fit (c .before .before)),
       eq-eqb _ _ (c .if3 .left ∙ c .before .predicate-file .ensures),
     )

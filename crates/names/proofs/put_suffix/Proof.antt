@@ -6,25 +6,31 @@ use Rattle.names.proofs.put_suffix.Statement.{statement}
 use Rattle.names.proofs.put_suffix.Tie as tie
 
 put-bytes-requires : tie.Need-put-bytes-requires
-put-bytes-requires c κs = rw (c .before .before .before .before .suffix .given .1) at (c .before .before .before .before .before .before .before .pre)
+put-bytes-requires c κs =
+    let letter = c .before in
+    let s = letter .before .before .before in
+    rw (s .suffix .given .1) at (s .before .before .before .pre)
 
 put-lanes-requires : tie.Need-put-lanes-requires
-put-lanes-requires c κs = rw (c .before .before .suffix2 .given .1) at (c .before .before .before .before .before .pre)
+put-lanes-requires c κs = let s = c .before .before in rw (s .suffix2 .given .1) at (s .before .before .before .pre)
 
 put-bytes-requires-2 : tie.Need-put-bytes-requires-2
-put-bytes-requires-2 c κs = rw (c .before .before .enum-told2 .given .1) at (c .before .before .before .before .before .pre)
+put-bytes-requires-2 c κs = let s = c .before .before in rw (s .enum-told2 .given .1) at (s .before .before .before .pre)
 
 returns : tie.Need-returns
 returns c = rw (c .enum-told .given .1) (put-none _ _)
 
 returns-2 : tie.Need-returns-2
-returns-2 c = rw (c .before .before .before .before .before .before .before .suffix .given .1, ← c .before .before .before .before .letter-of .ensures) (c .before .before .put-bytes .ensures)
+returns-2 c =
+    let w = c .before .before in
+    let letter = w .before .before in
+    rw (letter .before .before .before .suffix .given .1, ← letter .letter-of .ensures) (w .put-bytes .ensures)
 
 returns-3 : tie.Need-returns-3
-returns-3 c = rw (c .before .before .before .before .before .suffix2 .given .1) (c .before .before .put-lanes .ensures)
+returns-3 c = let w = c .before .before in rw (w .before .before .before .suffix2 .given .1) (w .put-lanes .ensures)
 
 returns-4 : tie.Need-returns-4
-returns-4 c = rw (c .before .before .before .before .before .enum-told2 .given .1) (c .before .before .put-bytes2 .ensures)
+returns-4 c = let w = c .before .before in rw (w .before .before .before .enum-told2 .given .1) (w .put-bytes2 .ensures)
 
 pub put-suffix-spec : {M : Type 1} → statement M
 put-suffix-spec =

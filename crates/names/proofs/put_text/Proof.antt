@@ -18,28 +18,28 @@ start c = c .before .before
 abbrev family : tie.After-put-name → tie.After-family-of
 family c = c .before .before
 
-abbrev name : tie.After-destination → tie.After-put-name
-name c = c .before .before .before .before
+abbrev name : tie.After-put-operand-arg → tie.After-put-name
+name c = c .before .before .before
 
-abbrev first : tie.After-governing-digits → tie.After-put-operand
-first c = c .before .before .before .before
+abbrev first : tie.After-put-further-arg → tie.After-put-operand
+first c = c .before .before .before
 
-abbrev second : tie.After-source → tie.After-put-further
-second c = c .before .before .before .before
+abbrev second : tie.After-put-further-arg2 → tie.After-put-further
+second c = c .before .before .before
 
-abbrev third : tie.After-second-digits → tie.After-put-further2
-third c = c .before .before .before .before
+abbrev third : tie.After-put-further-arg3 → tie.After-put-further2
+third c = c .before .before .before
 
 -- the fields are in range
 in-range : (c : tie.After-put-name) → (start (family c) .args .f .size < sizes) × (start (family c) .args .f .q < 2)
 in-range c = let r = start (family c) .pre .1 in (r .size, q-below (familyOf (start (family c) .args .f .row)) (r .q))
 
 destination-requires : tie.Need-destination-requires
-destination-requires c κs = in-range (c .before .before .before)
+destination-requires c κs = in-range (name c)
 
 put-operand-requires : tie.Need-put-operand-requires
 put-operand-requires c κs =
-    let at = name c in
+    let at = name (c .before) in
     let fam = family at in
     room-rest (operandText (c .destination .result)) (at .put-name .ensures)
     (room-one (start fam .args .f) _ (fam .family-of .ensures) _ (c .destination .ensures) (start fam .pre .1) _ (start fam .pre .0))
@@ -47,42 +47,42 @@ put-operand-requires c κs =
 put-further-requires : tie.Need-put-further-requires
 put-further-requires c κs =
     let digits = c .before in
-    let dest = first digits .before in
-    let fam = family (name dest) in
+    let dest = first (digits .before) .before in
+    let fam = family (name (dest .before)) in
     room-rest (further (digits .governing-digits .result) (c .governing .result))
-    (put-then (name dest .put-name .ensures) (first digits .put-operand .ensures))
+    (put-then (name (dest .before) .put-name .ensures) (first (digits .before) .put-operand .ensures))
     (room-two (start fam .args .f) _ (fam .family-of .ensures) _ (dest .destination .ensures) (start fam .pre .1) _ (start fam .pre .0)
     _ _ (digits .governing-digits .ensures .is) (c .governing .ensures))
 
 source-requires : tie.Need-source-requires
-source-requires c κs = in-range (name (first (c .before .before .before .before .before) .before))
+source-requires c κs = in-range (name (first (second c .before .before .before) .before .before))
 
 put-further-requires-2 : tie.Need-put-further-requires-2
 put-further-requires-2 c κs =
-    let gov = second c .before in
+    let gov = second (c .before) .before in
     let digits = gov .before in
-    let dest = first digits .before in
-    let fam = family (name dest) in
+    let dest = first (digits .before) .before in
+    let fam = family (name (dest .before)) in
     room-rest (further 5 (c .source .result))
-    (put-then (put-then (name dest .put-name .ensures) (first digits .put-operand .ensures)) (second c .put-further .ensures))
+    (put-then (put-then (name (dest .before) .put-name .ensures) (first (digits .before) .put-operand .ensures)) (second (c .before) .put-further .ensures))
     (room-three (start fam .args .f) _ (fam .family-of .ensures) _ (dest .destination .ensures) (start fam .pre .1) _ (start fam .pre .0)
     _ _ _ (digits .governing-digits .ensures .is) (gov .governing .ensures) (c .source .ensures))
 
 source-requires-2 : tie.Need-source-requires-2
-source-requires-2 c κs = in-range (name (first (second (third c .before) .before .before) .before))
+source-requires-2 c κs = let gov = second (third (c .before) .before .before) .before in in-range (name (first (gov .before .before) .before .before))
 
 put-further-requires-3 : tie.Need-put-further-requires-3
 put-further-requires-3 c κs =
     let last = c .before in
-    let src = third last .before in
-    let gov = second src .before in
+    let src = third (last .before) .before in
+    let gov = second (src .before) .before in
     let digits = gov .before in
-    let dest = first digits .before in
-    let fam = family (name dest) in
+    let dest = first (digits .before) .before in
+    let fam = family (name (dest .before)) in
     room-rest (further (last .second-digits .result) (c .source2 .result))
     (put-then
-    (put-then (put-then (name dest .put-name .ensures) (first digits .put-operand .ensures)) (second src .put-further .ensures))
-    (third last .put-further2 .ensures))
+    (put-then (put-then (name (dest .before) .put-name .ensures) (first (digits .before) .put-operand .ensures)) (second (src .before) .put-further .ensures))
+    (third (last .before) .put-further2 .ensures))
     (room-four (start fam .args .f) _ (fam .family-of .ensures) _ (dest .destination .ensures) (start fam .pre .1) _ (start fam .pre .0)
     _ _ _ _ _ (digits .governing-digits .ensures .is) (gov .governing .ensures) (src .source .ensures) (last .second-digits .ensures .is) (c .source2 .ensures))
 
@@ -90,31 +90,31 @@ same-length : tie.Need-same-length
 same-length c =
     let end = c .before .before in
     let last = end .before .before in
-    let src = third last .before in
-    let digits = second src .before .before in
-    let dest = first digits .before in
+    let src = third (last .before) .before in
+    let digits = second (src .before) .before .before in
+    let dest = first (digits .before) .before in
     put-length
     (put-then
     (put-then
-    (put-then (put-then (name dest .put-name .ensures) (first digits .put-operand .ensures)) (second src .put-further .ensures))
-    (third last .put-further2 .ensures))
+    (put-then (put-then (name (dest .before) .put-name .ensures) (first (digits .before) .put-operand .ensures)) (second (src .before) .put-further .ensures))
+    (third (last .before) .put-further2 .ensures))
     (end .put-further3 .ensures))
 
 returns : tie.Need-returns
 returns c =
     let end = c .before .before in
     let last = end .before .before in
-    let src = third last .before in
-    let gov = second src .before in
+    let src = third (last .before) .before in
+    let gov = second (src .before) .before in
     let digits = gov .before in
-    let dest = first digits .before in
-    let fam = family (name dest) in
+    let dest = first (digits .before) .before in
+    let fam = family (name (dest .before)) in
     rw (text-written (start fam .args .f) _ (fam .family-of .ensures) _ (dest .destination .ensures)
     _ _ _ _ _ (digits .governing-digits .ensures .is) (gov .governing .ensures) (src .source .ensures) (last .second-digits .ensures .is) (end .before .source2 .ensures))
     (put-then
     (put-then
-    (put-then (put-then (name dest .put-name .ensures) (first digits .put-operand .ensures)) (second src .put-further .ensures))
-    (third last .put-further2 .ensures))
+    (put-then (put-then (name (dest .before) .put-name .ensures) (first (digits .before) .put-operand .ensures)) (second (src .before) .put-further .ensures))
+    (third (last .before) .put-further2 .ensures))
     (end .put-further3 .ensures))
 
 pub put-text-spec : {M : Type 1} → statement M

@@ -4,14 +4,18 @@ use borrow.Author.Needs.{needs}
 use Rattle.names.proofs.source.Statement.{statement}
 use Rattle.names.proofs.source.Tie as tie
 
+-- where the family is known to be a low one
+abbrev low : tie.After-known-told → tie.After-family
+low c = c .before
+
 returns : tie.Need-returns
-returns c = rw (c .before .before .before .before .family .given .1, c .before .enum-told .given .1) (c .register .ensures)
+returns c = rw (low (c .before .before .before) .family .given .1, c .before .enum-told .given .1) (c .register .ensures)
 
 returns-2 : tie.Need-returns-2
-returns-2 c = rw (c .before .before .before .before .family .given .1, c .before .enum-told2 .given .1) (c .register2 .ensures)
+returns-2 c = rw (low (c .before .before .before) .family .given .1, c .before .enum-told2 .given .1) (c .register2 .ensures)
 
 returns-3 : tie.Need-returns-3
-returns-3 c = rw (c .before .before .before .before .before .family .given .1, c .before .before .enum-told3 .given .1, ← c .before .lanes-of .ensures) (c .register3 .ensures)
+returns-3 c = let l = c .before in rw (low (l .before .before .before) .family .given .1, l .before .enum-told3 .given .1, ← l .lanes-of .ensures) (c .register3 .ensures)
 
 returns-4 : tie.Need-returns-4
 returns-4 c = rw (c .before .before .enum-told4 .given .1, ← c .before .half .ensures) (c .register4 .ensures)

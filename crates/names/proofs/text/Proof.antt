@@ -18,6 +18,9 @@ long c = c .before
 abbrev decode : tie.After-fields → tie.After-decode
 decode c = c .before .before
 
+abbrev fields : tie.After-put-text → tie.After-fields
+fields c = c .before .before .before
+
 accepted : (c : tie.After-fields) → decoded (long (decode c) .before .before .args .word) ≡ Word (c .fields .given .0 .0)
 accepted c = sym (decode c .decode .ensures) ∙ c .fields .given .1
 
@@ -39,7 +42,7 @@ returns-3 c =
 
 returns-4 : tie.Need-returns-4
 returns-4 c =
-    let at = c .before .before .before .before .before in
+    let at = fields (c .before .before) in
     let room = long (decode at) .if1 .left in
     let fits = text-length _ (decoded-in-range _ _ (accepted at)) in
     named-done _ _ _ _ _ room (accepted at) (omega (arith, room, fits)) (c .before .before .put-text .ensures)

@@ -18,12 +18,15 @@ use Rattle.pane.proofs.Drawing.{drawable, in-file, drawn-from}
 use Rattle.pane.proofs.register.Statement.{statement}
 use Rattle.pane.proofs.register.Tie as tie
 
--- the entry, from the two branches and from where the register's place and size are known
+-- the entry, from the test, from its two branches and from where the register's place and size are known
+abbrev start : tie.After-register-refusal → tie.Start
+start c = c .before .before .before
+
 abbrev refused-start : tie.Then1 → tie.Start
-refused-start c = c .before .before .before .before
+refused-start c = start (c .before)
 
 abbrev drawn-start : tie.Else1 → tie.Start
-drawn-start c = c .before .before .before .before
+drawn-start c = start (c .before)
 
 abbrev placed-start : tie.After-register-bytes → tie.Start
 placed-start c = drawn-start (c .before .before)

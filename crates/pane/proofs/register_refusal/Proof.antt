@@ -14,17 +14,21 @@ use Rattle.pane.specs.Drawn.{registerRefused}
 use Rattle.pane.proofs.register_refusal.Statement.{statement}
 use Rattle.pane.proofs.register_refusal.Tie as tie
 
+-- where the function starts
+abbrev start : tie.After-check-files → tie.Start
+start c = c .before .before .before
+
 -- past the first test the register's own decides
 decides : (c : tie.Else1) →
-    let a = c .before .before .before .before .args in
+    let a = start (c .before) .args in
     registerRefused (a .k) (now (a .z)) (now (a .p)) (a .kind) (a .number) ≡ cond (leb (registerCount (a .kind)) (a .number)) RANGE DONE
 decides c =
-    let a = c .before .before .before .before .args in
+    let a = start (c .before) .args in
     refused-later (filesTests (a .k) (length (now (a .z))) (length (now (a .p)))) tt _ _ (c .before .check-files .ensures) (c .if1 .left)
 
 returns : tie.Need-returns
 returns c =
-    let a = c .before .before .before .before .args in
+    let a = start (c .before) .args in
     refused-early (filesTests (a .k) (length (now (a .z))) (length (now (a .p)))) tt _ _ (c .before .check-files .ensures) (c .if1 .taken)
 
 returns-2 : tie.Need-returns-2

@@ -15,12 +15,14 @@ use Rattle.parts.proofs.clear_part.Tie as tie
 
 returns : tie.Need-returns
 returns c =
-    let a = c .before .before .before .before .before .args in
+    let cleared = c .before .before in
+    let s = cleared .before .before .before in
+    let a = s .args in
     let n : a .at + a .n - a .at ≡ a .n = omega arith in
-    let came = c .before .before .clear .last .0 in
+    let came = cleared .clear .last .0 in
     let same : came ≡ replicate (a .n) 0 =
-    c .before .before .clear .ensures
-    ∙ rw (n, length-part (a .at) (a .n) (now (a .bytes)) (c .before .before .before .before .before .pre)) in
+    cleared .clear .ensures
+    ∙ rw (n, length-part (a .at) (a .n) (now (a .bytes)) (s .pre)) in
     put-part (a .at) (a .at + a .n) (now (a .bytes)) came (omega arith)
     ∙ ap (λ (s : List ℕ). withPart (a .at) (a .n) s (now (a .bytes))) same
 

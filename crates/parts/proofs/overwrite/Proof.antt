@@ -15,12 +15,15 @@ use Rattle.parts.proofs.overwrite.Tie as tie
 
 returns : tie.Need-returns
 returns c =
-    let a = c .before .before .before .before .before .before .args in
+    let copied = c .before .before in
+    let lent = copied .before in
+    let s = lent .before .before .before in
+    let a = s .args in
     let n : a .at + length (now (a .source)) - a .at ≡ length (now (a .source)) = omega arith in
-    let came = c .before .before .copy .last .1 .0 in
+    let came = copied .copy .last .1 .0 in
     let same : came ≡ now (a .source) =
-    c .before .before .copy .ensures .1
-    ∙ rw n (copied-over (a .at) (now (a .source)) (now (a .bytes)) (c .before .before .before .before .before .before .pre)) in
+    copied .copy .ensures .1
+    ∙ rw n (copied-over (a .at) (now (a .source)) (now (a .bytes)) (s .pre)) in
     put-part (a .at) (a .at + length (now (a .source))) (now (a .bytes)) came (omega arith)
     ∙ ap (λ (s : List ℕ). withPart (a .at) (length (now (a .source))) s (now (a .bytes))) same
 

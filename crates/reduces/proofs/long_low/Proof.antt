@@ -14,6 +14,10 @@ use Rattle.reduces.proofs.Across.{across, data-bytes}
 use Rattle.reduces.proofs.long_low.Statement.{statement}
 use Rattle.reduces.proofs.long_low.Tie as tie
 
+-- where the function starts
+abbrev start : tie.After-every → tie.Start
+start c = c .before .before .before
+
 -- the low bytes
 front : (c : tie.Start) → length (take (8 * (1 + c .args .q)) (c .args .n .now)) ≡ 8 * (1 + c .args .q)
 front c = length-take-le (8 * (1 + c .args .q)) (c .args .n .now) (omega (arith, c .pre .one, c .pre .low))
@@ -23,7 +27,7 @@ slice-aggregate-sum-lanes c = sym (front (c .before .before))
 
 sum-lanes-requires : tie.Need-sum-lanes-requires
 sum-lanes-requires c κs =
-    let s = c .before .before .before in
+    let s = start c in
     record {
       governs = record { least = s .pre .least; most = s .pre .most; covers = omega (arith, front s, s .pre .low); bits = omega arith };
       ordered = omega arith;
@@ -32,7 +36,7 @@ sum-lanes-requires c κs =
 
 returns : tie.Need-returns
 returns c =
-    let s = c .before .before .before .before .before in
+    let s = start (c .before .before) in
     c .scalar .ensures
     ∙ ap (λ (sum : ℕ). padded segmentBytes (bytesOf (2 * s .args .w) sum))
     (c .before .sum-lanes .ensures

@@ -15,15 +15,18 @@ use Rattle.meaning.proofs.LowWritten.{written-reduction, written-segment, writt
 use Rattle.reduces.proofs.low_bytes.Statement.{statement}
 use Rattle.reduces.proofs.low_bytes.Tie as tie
 
--- where the registers are read from
+-- where the registers are read from, seen from where none is read and from where both are
+abbrev begin : tie.After-width-of → tie.Start
+begin c = c .before .before .before
+
 abbrev start : tie.After-register2 → tie.Start
-start c = c .before .before .before .before .before
+start c = begin (c .before .before)
 
 register-requires : tie.Need-register-requires
-register-requires c κs = governing-in _ _ _ (c .before .before .before .pre .0 .word)
+register-requires c κs = governing-in _ _ _ (begin c .pre .0 .word)
 
 register-requires-2 : tie.Need-register-requires-2
-register-requires-2 c κs = let h = c .before .before .before .before .pre .0 .word in vector-in _ _ _ h _ (h .fields .n)
+register-requires-2 c κs = let h = begin (c .before) .pre .0 .word in vector-in _ _ _ h _ (h .fields .n)
 
 reduction-low-requires : tie.Need-reduction-low-requires
 reduction-low-requires c κs =

@@ -12,9 +12,10 @@ use Rattle.reduces.proofs.segment_low.Tie as tie
 
 returns : tie.Need-returns
 returns c =
-    let s = c .before .before .before .before in
+    let rows = c .before in
+    let s = rows .before .before .before in
     c .column-sums .ensures
-    ∙ ap (λ (rows : List (List ℕ)). fromLanes (s .args .w) 0 (perSegment (s .args .w)) (rowsSum (s .args .w) rows)) (c .before .panel-of .ensures)
+    ∙ ap (λ (rows : List (List ℕ)). fromLanes (s .args .w) 0 (perSegment (s .args .w)) (rowsSum (s .args .w) rows)) (rows .panel-of .ensures)
     ∙ addqv-is-column-sums (s .args .w) (s .args .p .now) (s .args .n .now) (s .pre .segments)
 
 pub segment-low-spec : {M : Type 1} → statement M

@@ -5,14 +5,19 @@ use borrow.Author.Needs.{needs}
 use Rattle.registers.proofs.write.Statement.{statement}
 use Rattle.registers.proofs.write.Tie as tie
 
+-- where the function starts, and where the source is copied
+abbrev start : tie.After-copy-arg → tie.Start
+start c = c .before .before .before
+
+abbrev copied : tie.After-clear-arg → tie.After-copy
+copied c = c .before .before .before
+
 returns : tie.Need-returns
 returns c =
-    let a = c .before .before .before .before .before .before .before .before .before .before .args in
-    put-zeros (a .source .now) (a .destination .now) (c .before .before .before .before .before .before .copy .last .1 .0)
-    (c .before .before .clear .last .0)
-    (c .before .before .before .before .before .before .before .before .before .before .pre)
-    (c .before .before .before .before .before .before .copy .ensures .1)
-    (c .before .before .clear .ensures)
+    let cleared = c .before .before in
+    let front = copied (cleared .before) in
+    let s = start (front .before) in
+    put-zeros (s .args .source .now) (s .args .destination .now) (front .copy .last .1 .0) (cleared .clear .last .0) (s .pre) (front .copy .ensures .1) (cleared .clear .ensures)
 
 pub write-spec : {M : Type 1} → statement M
 write-spec =

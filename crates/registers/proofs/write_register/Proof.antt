@@ -23,10 +23,14 @@ put-register : (k : ℕ) (kind : Kind) (r at bytes : ℕ) (file source back : Li
 put-register k kind r at bytes file source back h place width is =
     put-part at (at + bytes) file back (omega arith) ∙ rw (is, add-sub-cancel-left at bytes, place, width, length-register k kind r file h)
 
+-- where the function starts
+abbrev start : tie.After-shared-slice-known → tie.Start
+start c = c .before .before
+
 -- the register ends within the file
-within : (c : tie.After-register-bytes) → c .before .register-at .result + c .register-bytes .result ≤ length (now (c .before .before .before .before .args .file))
+within : (c : tie.After-register-bytes) → c .before .register-at .result + c .register-bytes .result ≤ length (now (start (c .before .before) .args .file))
 within c =
-    let s = c .before .before .before .before in
+    let s = start (c .before .before) in
     rw (c .before .register-at .ensures, c .register-bytes .ensures) (register-inside (s .args .k) (s .args .kind) (s .args .r) (now (s .args .file)) (s .pre .0))
 
 add-end : tie.Need-add-end
@@ -38,13 +42,14 @@ part-write-end c = within c
 returns : tie.Need-returns
 returns c =
     let w = c .before .before in
-    let s = w .before .before .before .before .before .before in
-    put-register (s .args .k) (s .args .kind) (s .args .r) (w .before .before .before .register-at .result) (w .before .before .register-bytes .result)
+    let place = w .before .before .before in
+    let s = start (place .before) in
+    put-register (s .args .k) (s .args .kind) (s .args .r) (place .register-at .result) (w .before .before .register-bytes .result)
     (now (s .args .file))
     (now (s .args .source))
     (w .write .last .0)
     (s .pre .0)
-    (w .before .before .before .register-at .ensures)
+    (place .register-at .ensures)
     (w .before .before .register-bytes .ensures)
     (w .write .ensures)
 

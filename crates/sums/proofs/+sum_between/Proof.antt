@@ -39,6 +39,10 @@ callees t = (
   wrapping-add-u64-reads.Learnt,
 )
 
+-- where the function starts, seen from the range that is halved
+abbrev start : (t : ℕ) → sum-between-lts.Else1 (callees t) (sum-between-at t) sum-between.Post → sum-between-lts.Start (callees t) (sum-between-at t) sum-between.Post
+start t c = c .before .before .before
+
 sum-between-sub-if1 : (t : ℕ) → sum-between-lts.Need-sub-if1 (callees t) (sum-between-at t) sum-between.Post
 sum-between-sub-if1 t c = omega arith
 
@@ -56,15 +60,15 @@ sum-between-add-middle t c = omega arith
 
 sum-between-sum-between-requires : (t : ℕ) → sum-between-lts.Need-sum-between-requires (callees t) (sum-between-at t) sum-between.Post
 sum-between-sum-between-requires t c κs =
-    let a = c .before .before .before .args in
-    let r = c .before .before .before .pre .1 in (
+    let a = start t c .args in
+    let r = start t c .pre .1 in (
       omega arith,
       record { governs = r .governs; ordered = omega arith; inside = omega (arith, r .inside, mul-le-mul-right {m = a .a + (a .b - a .a) / 2} {n = a .b} (a .w) (omega arith)) },
     )
 
 sum-between-sum-between-requires-2 : (t : ℕ) → sum-between-lts.Need-sum-between-requires-2 (callees t) (sum-between-at t) sum-between.Post
 sum-between-sum-between-requires-2 t c κs =
-    let r = c .before .before .before .before .pre .1 in
+    let r = start t (c .before) .pre .1 in
     (omega arith, record { governs = r .governs; ordered = omega arith; inside = r .inside })
 
 sum-between-wrapping-add-u64-requires : (t : ℕ) → sum-between-lts.Need-wrapping-add-u64-requires (callees t) (sum-between-at t) sum-between.Post
@@ -72,7 +76,7 @@ sum-between-wrapping-add-u64-requires t c κs = search needs
 
 sum-between-returns-2 : (t : ℕ) → sum-between-lts.Need-returns-2 (callees t) (sum-between-at t) sum-between.Post
 sum-between-returns-2 t c =
-    let a = c .before .before .before .before .before .before .args in
+    let a = start t (c .before .before .before) .args in
     c .wrapping-add-u64 .ensures
     ∙ ap₂ (λ (m n : ℕ). (m + n) % 2 ^ 64) (c .before .before .sum-between .ensures) (c .before .sum-between2 .ensures)
     ∙ sym (sum-split (a .signed) (a .w) (a .predicate .now) (a .register .now) (a .a) (a .a + (a .b - a .a) / 2) (a .b) (omega arith) (omega arith))

@@ -19,17 +19,22 @@ Inv-loop w e rows sum₀ s₀ sum s = (s ≤ mostLength) × (sum ≡ placeSum w 
 abbrev μ-loop : tie.MeasureT-loop
 μ-loop w e rows sum₀ s₀ sum s = mostLength - s
 
+-- where a turn begins
+abbrev turn : tie.After-row-lane Inv-loop μ-loop → tie.At-loop Inv-loop μ-loop
+turn c = c .before .before .before
+
 loop-holds : tie.Need-loop-holds Inv-loop μ-loop
 loop-holds c = (omega arith, refl)
 
 loop-again : tie.Need-loop-again Inv-loop μ-loop
 loop-again c =
-    let a = c .before .before .before .before .before .args in
-    let l = c .before .before .before .before .loop in (
+    let t = turn (c .before) in
+    let a = t .before .args in
+    let l = t .loop in (
       omega arith,
       c .wrapping-add-u64 .ensures
           ∙ ap₂ (λ (m n : ℕ). (m + n) % 2 ^ 64) (l .inv .1) (c .before .row-lane .ensures)
-          ∙ sym (place-next (a .w) (a .e) (2 ^ 64) (l .s) (a .t1) (omega (arith, c .before .before .before .before .before .good .0 .1 .0 .1))),
+          ∙ sym (place-next (a .w) (a .e) (2 ^ 64) (l .s) (a .t1) (omega (arith, t .before .good .0 .1 .0 .1))),
     )
 
 returns : tie.Need-returns Inv-loop μ-loop

@@ -20,6 +20,10 @@ Inv-loop rows w count row₀ e₀ row e = (e ≤ count) × Begun segmentBytes w 
 abbrev μ-loop : tie.MeasureT-loop
 μ-loop rows w count row₀ e₀ row e = count - e
 
+-- where a turn begins
+abbrev turn : tie.After-put-lane Inv-loop μ-loop → tie.In-loop Inv-loop μ-loop
+turn c = c .before .before .before
+
 -- the lane of a turn lies within the row
 inside : (c : tie.In-loop Inv-loop μ-loop) → c .before .loop .e * c .before .before .args .w + c .before .before .args .w ≤ segmentBytes
 inside c = lane-inside (c .before .before .args .w) (c .before .loop .e) (c .before .before .pre .fills) (c .loop-test .taken)
@@ -41,17 +45,17 @@ put-lane-requires : tie.Need-put-lane-requires Inv-loop μ-loop
 put-lane-requires c κs = rw (whole (c .before .before)) (inside (c .before .before))
 
 add-e : tie.Need-add-e Inv-loop μ-loop
-add-e c = omega (arith, div-le-self 16 (c .before .before .before .before .before .before .args .w))
+add-e c = omega (arith, div-le-self 16 (turn (c .before) .before .before .args .w))
 
 loop-again : tie.Need-loop-again Inv-loop μ-loop
 loop-again c =
-    let s = c .before .before .before .before .before .before in
-    let l = c .before .before .before .before .before .loop in (
+    let l = turn (c .before) .before in
+    let s = l .before in (
       omega arith,
       c .before .put-lane .ensures
-          ∙ begun-next segmentBytes (s .args .w) (l .e) _ (rowsSum (s .args .w) (s .args .rows)) (l .row)
-          (ap (bytesOf (s .args .w)) (c .before .before .before .column-sum .ensures) ∙ place-bytes (s .args .w) (l .e) (s .pre .most) (s .args .rows))
-          (l .inv .1),
+          ∙ begun-next segmentBytes (s .args .w) (l .loop .e) _ (rowsSum (s .args .w) (s .args .rows)) (l .loop .row)
+          (ap (bytesOf (s .args .w)) (c .before .before .before .column-sum .ensures) ∙ place-bytes (s .args .w) (l .loop .e) (s .pre .most) (s .args .rows))
+          (l .loop .inv .1),
     )
 
 returns : tie.Need-returns Inv-loop μ-loop

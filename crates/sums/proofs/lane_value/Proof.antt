@@ -12,22 +12,27 @@ use Rattle.lanes.proofs.Bytes.{lane-lt}
 use Rattle.sums.proofs.lane_value.Statement.{statement}
 use Rattle.sums.proofs.lane_value.Tie as tie
 
+-- where the register is known to hold bytes
+abbrev known : tie.After-is-active → tie.After-shared-slice-known
+known c = c .before .before
+
 returns : tie.Need-returns
 returns c = rw (sym (c .before .is-active .ensures) ∙ not-true _ (c .if1 .taken))
 
 extend-requires : tie.Need-extend-requires
 extend-requires c κs =
-    let a = c .before .before .before .before .before .args in
+    let s = known (c .before .before) in
+    let a = s .before .args in
     record {
       least = search needs;
       most = search needs;
       digits = rw (c .lane .ensures)
-          (lane-lt (a .w) (a .e) (now (a .register)) (λ i. omega (arith, c .before .before .before .before .shared-slice-known .given i)));
+          (lane-lt (a .w) (a .e) (now (a .register)) (λ i. omega (arith, s .shared-slice-known .given i)));
     }
 
 returns-2 : tie.Need-returns-2
 returns-2 c =
-    let a = c .before .before .before .before .before .before .args in
+    let a = known (c .before .before .before) .before .args in
     rw (sym (c .before .before .before .is-active .ensures) ∙ not-false _ (c .before .before .if1 .left))
     (c .extend .ensures ∙ ap (λ (n : ℕ). residue 64 (integer (a .signed) (bitsOf (a .w)) n)) (c .before .lane .ensures))
 

@@ -8,9 +8,16 @@ use Rattle.sums.proofs.Accepted.{Accepted, panel-accepted, source-in, p
 use Rattle.sums.proofs.panel.Statement.{statement}
 use Rattle.sums.proofs.panel.Tie as tie
 
+-- where the function starts, and where the test is past
+abbrev start : tie.After-panel-refusal → tie.Start
+start c = c .before .before .before
+
+abbrev passed : tie.After-width-of → tie.Else1
+passed c = c .before .before .before
+
 -- past the test nothing is refused
 accepted : (c : tie.Else1)
-    → let a = c .before .before .before .before .args in
+    → let a = start (c .before) .args in
     Accepted (a .k) (a .z .now) (a .p .now) (a .source) (a .governing) (a .size)
 accepted c = panel-accepted _ _ _ _ _ _ (sym (c .before .panel-refusal .ensures) ∙ c .if1 .left)
 
@@ -29,13 +36,13 @@ width-of-requires c κs = accepted (c .before .before) .size-is
 
 panel-of-requires : tie.Need-panel-of-requires
 panel-of-requires c κs =
-    let h = accepted (c .before .before .before) in
+    let h = accepted (passed c) in
     rw (c .width-of .ensures, c .before .register2 .ensures, c .before .before .register .ensures)
     (record { governs = governs _ _ _ _ _ _ h; fills = width-legal _ (h .size-is) .2; segments = whole-segments _ _ _ _ _ _ h })
 
 returns-2 : tie.Need-returns-2
 returns-2 c =
-    let t = c .before .before .before .before in
+    let t = passed (c .before) in
     c .panel-of .ensures
     ∙ rw (c .before .width-of .ensures, c .before .before .register2 .ensures, c .before .before .before .register .ensures)
     (left _ _ _ (sym (t .before .panel-refusal .ensures) ∙ t .if1 .left))

@@ -12,6 +12,10 @@ Inv-loop register predicate w count rows₀ s₀ rows s = (s ≤ count) × Fille
 abbrev μ-loop : tie.MeasureT-loop
 μ-loop register predicate w count rows₀ s₀ rows s = count - s
 
+-- where the function starts, seen from its loop
+abbrev start : tie.At-loop Inv-loop μ-loop → tie.Start Inv-loop μ-loop
+start c = c .before .before .before
+
 loop-holds : tie.Need-loop-holds Inv-loop μ-loop
 loop-holds c =
     let a = c .before .before .args in
@@ -19,12 +23,12 @@ loop-holds c =
 
 panel-row-requires : tie.Need-panel-row-requires Inv-loop μ-loop
 panel-row-requires c κs =
-    let r = c .before .before .before .before .pre in
+    let r = start (c .before) .pre in
     record { governs = r .governs; fills = r .fills; inside = omega arith }
 
 loop-again : tie.Need-loop-again Inv-loop μ-loop
 loop-again c =
-    let a = c .before .before .before .before .before .args in
+    let a = start (c .before .before) .args in
     let l = c .before .before .loop in (
       omega arith,
       rw (c .panel-row .ensures)
@@ -33,7 +37,7 @@ loop-again c =
 
 returns : tie.Need-returns Inv-loop μ-loop
 returns c =
-    let a = c .before .before .before .before .args in
+    let a = start (c .before) .args in
     filled-all (a .w) (a .predicate .now) (a .register .now) (c .before .loop .s) (c .before .loop .rows) (omega arith) (c .before .loop .inv .1)
 
 pub panel-of-spec : {M : Type 1} → statement M

@@ -12,17 +12,21 @@ use Rattle.sums.specs.Calls.{inRange, panelRefused}
 use Rattle.sums.proofs.panel_refusal.Statement.{statement}
 use Rattle.sums.proofs.panel_refusal.Tie as tie
 
+-- where the function starts
+abbrev start : tie.After-check-files → tie.Start
+start c = c .before .before .before
+
 -- past the first test the numbers decide
 numbers : (c : tie.Else1)
-    → let a = c .before .before .before .before .args in
+    → let a = start (c .before) .args in
     panelRefused (a .k) (a .z .now) (a .p .now) (a .source) (a .governing) (a .size) ≡ refused (rangeTest (not (inRange (a .source) (a .governing) (a .size))) ∷ [])
 numbers c =
-    let a = c .before .before .before .before .args in
+    let a = start (c .before) .args in
     refused-later (filesTests (a .k) (length (a .z .now)) (length (a .p .now))) tt _ _ (c .before .check-files .ensures) (c .if1 .left)
 
 returns : tie.Need-returns
 returns c =
-    let a = c .before .before .before .before .args in
+    let a = start (c .before) .args in
     refused-early (filesTests (a .k) (length (a .z .now)) (length (a .p .now))) tt _ _ (c .before .check-files .ensures) (c .if1 .taken)
 
 returns-2 : tie.Need-returns-2

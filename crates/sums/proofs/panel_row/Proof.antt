@@ -20,9 +20,15 @@ Inv-loop register predicate w s count first row₀ e₀ row e = (e ≤ count) ×
 abbrev μ-loop : tie.MeasureT-loop
 μ-loop register predicate w s count first row₀ e₀ row e = count - e
 
--- where the loop is entered from, and the number of its lane in the register
+-- where the function starts, seen from the loop's head and from a turn, where a turn begins, and the number of its lane in the register
+abbrev begin : tie.At-loop Inv-loop μ-loop → tie.Start Inv-loop μ-loop
+begin c = c .before .before .before
+
 abbrev start : tie.In-loop Inv-loop μ-loop → tie.Start Inv-loop μ-loop
-start c = c .before .before .before .before
+start c = begin (c .before)
+
+abbrev turn : tie.After-put-lane Inv-loop μ-loop → tie.In-loop Inv-loop μ-loop
+turn c = c .before .before .before
 
 abbrev number : tie.In-loop Inv-loop μ-loop → ℕ
 number c = start c .args .s * perSegment (start c .args .w) + c .before .loop .e
@@ -62,11 +68,11 @@ put-lane-requires : tie.Need-put-lane-requires Inv-loop μ-loop
 put-lane-requires c κs = rw (whole (c .before .before)) (inside-row (c .before .before))
 
 add-e : tie.Need-add-e Inv-loop μ-loop
-add-e c = omega (arith, c .before .before .before .before .loop-test .taken, div-le-self 16 (start (c .before .before .before .before) .args .w))
+add-e c = let t = turn (c .before) in omega (arith, t .loop-test .taken, div-le-self 16 (start t .args .w))
 
 loop-again : tie.Need-loop-again Inv-loop μ-loop
 loop-again c =
-    let l = c .before .before .before .before in
+    let l = turn (c .before) in
     let a = start l .args in (
       omega (arith, l .loop-test .taken),
       c .before .put-lane .ensures
@@ -78,7 +84,7 @@ loop-again c =
 
 returns : tie.Need-returns Inv-loop μ-loop
 returns c =
-    let s = c .before .before .before .before in
+    let s = begin (c .before) in
     begun-all segmentBytes (s .args .w) (c .before .loop .e) _ _ (c .before .loop .row) (omega (arith, c .loop-test .left, c .before .loop .inv .0)) (s .pre .fills) (c .before .loop .inv .1)
 
 pub panel-row-spec : {M : Type 1} → statement M

@@ -12,14 +12,21 @@ use Rattle.sums.proofs.Accepted.{Accepted, subtotal-accepted, source-in
 use Rattle.sums.proofs.subtotal.Statement.{statement}
 use Rattle.sums.proofs.subtotal.Tie as tie
 
+-- where the function starts, and where the test is past
+abbrev start : tie.After-subtotal-refusal → tie.Start
+start c = c .before .before .before
+
+abbrev passed : tie.After-width-of → tie.Else1
+passed c = c .before .before .before
+
 -- past the test nothing is refused
 done : (c : tie.Else1)
-    → let a = c .before .before .before .before .args in
+    → let a = start (c .before) .args in
     subtotalRefused (a .k) (a .z .now) (a .p .now) (a .source) (a .governing) (a .size) (a .a) (a .b) ≡ DONE
 done c = sym (c .before .subtotal-refusal .ensures) ∙ c .if1 .left
 
 accepted : (c : tie.Else1)
-    → let a = c .before .before .before .before .args in
+    → let a = start (c .before) .args in
     Accepted (a .k) (a .z .now) (a .p .now) (a .source) (a .governing) (a .size) × (a .a ≤ a .b) × (a .b ≤ vectorBytes (a .k) / widthOf (a .size))
 accepted c = subtotal-accepted _ _ _ _ _ _ _ _ (done c)
 
@@ -37,13 +44,14 @@ width-of-requires c κs = accepted (c .before .before) .0 .size-is
 
 sum-between-requires : tie.Need-sum-between-requires
 sum-between-requires c κs =
-    let h = accepted (c .before .before .before) in
+    let h = accepted (passed c) in
     rw (c .width-of .ensures, c .before .register2 .ensures, c .before .before .register .ensures)
     (record { governs = governs _ _ _ _ _ _ (h .0); ordered = h .1; inside = lanes-within _ _ _ _ _ _ (h .0) _ (h .2) })
 
 returns-2 : tie.Need-returns-2
 returns-2 c =
-    done-answer _ _ _ _ (c .before .before .before .before .before .subtotal-refusal .ensures) (done (c .before .before .before .before))
+    let t = passed (c .before) in
+    done-answer _ _ _ _ (t .before .subtotal-refusal .ensures) (done t)
     (c .sum-between .ensures
     ∙ rw (c .before .width-of .ensures, c .before .before .register2 .ensures, c .before .before .before .register .ensures))
 

@@ -16,29 +16,36 @@ use Rattle.sums.proofs.Accepted.{Accepted, panel-accepted, width-legal}
 use Rattle.sums.proofs.subtotal_refusal.Statement.{statement}
 use Rattle.sums.proofs.subtotal_refusal.Tie as tie
 
+-- where the function starts, and where the first test is past
+abbrev start : tie.After-panel-refusal → tie.Start
+start c = c .before .before .before
+
+abbrev passed : tie.After-width-of → tie.Else1
+passed c = c .before .before .before
+
 -- past the first test the range decides
 range : (c : tie.Else1)
-    → let a = c .before .before .before .before .args in
+    → let a = start (c .before) .args in
     subtotalRefused (a .k) (a .z .now) (a .p .now) (a .source) (a .governing) (a .size) (a .a) (a .b) ≡ refused (rangeTest (not (laneRange (a .k) (a .size) (a .a) (a .b))) ∷ [])
 range c =
-    let a = c .before .before .before .before .args in
+    let a = start (c .before) .args in
     refused-later (panelTests (a .k) (a .z .now) (a .p .now) (a .source) (a .governing) (a .size)) tt _ _ (c .before .panel-refusal .ensures) (c .if1 .left)
 
 -- and the numbers are in range
 accepted : (c : tie.Else1)
-    → let a = c .before .before .before .before .args in
+    → let a = start (c .before) .args in
     Accepted (a .k) (a .z .now) (a .p .now) (a .source) (a .governing) (a .size)
 accepted c = panel-accepted _ _ _ _ _ _ (sym (c .before .panel-refusal .ensures) ∙ c .if1 .left)
 
 -- as many lanes as the register has
 lanes : (c : tie.After-width-of)
-    → let a = c .before .before .before .before .before .before .before .args in
+    → let a = start (passed c .before) .args in
     c .before .vector-bytes .result / c .width-of .result ≡ vectorBytes (a .k) / widthOf (a .size)
 lanes c = ap₂ (λ (m n : ℕ). m / n) (c .before .vector-bytes .ensures) (c .width-of .ensures)
 
 returns : tie.Need-returns
 returns c =
-    let a = c .before .before .before .before .args in
+    let a = start (c .before) .args in
     refused-early (panelTests (a .k) (a .z .now) (a .p .now) (a .source) (a .governing) (a .size)) tt _ _ (c .before .panel-refusal .ensures) (c .if1 .taken)
 
 returns-2 : tie.Need-returns-2
@@ -51,18 +58,18 @@ width-of-requires : tie.Need-width-of-requires
 width-of-requires c κs = accepted (c .before .before) .size-is
 
 div-if3 : tie.Need-div-if3
-div-if3 c = rw (c .width-of .ensures) (width-legal _ (accepted (c .before .before .before) .size-is) .0)
+div-if3 c = rw (c .width-of .ensures) (width-legal _ (accepted (passed c) .size-is) .0)
 
 returns-3 : tie.Need-returns-3
 returns-3 c =
     sym
-    (range (c .before .before .before .before)
+    (range (passed (c .before))
     ∙ rw (le-leb _ _ (c .before .before .before .if2 .left), lt-leb _ _ (rw (lanes (c .before)) at (c .if3 .taken))))
 
 returns-4 : tie.Need-returns-4
 returns-4 c =
     sym
-    (range (c .before .before .before .before)
+    (range (passed (c .before))
     ∙ rw (le-leb _ _ (c .before .before .before .if2 .left), le-leb _ _ (rw (lanes (c .before)) at (c .if3 .left))))
 
 pub subtotal-refusal-spec : {M : Type 1} → statement M

@@ -16,6 +16,10 @@ Inv-loop register predicate w signed a b sum₀ e₀ sum e = (a ≤ e) × (e ≤
 abbrev μ-loop : tie.MeasureT-loop
 μ-loop register predicate w signed a b sum₀ e₀ sum e = b - e
 
+-- where the function starts, seen from its loop
+abbrev start : tie.At-loop Inv-loop μ-loop → tie.Start Inv-loop μ-loop
+start c = c .before .before .before
+
 loop-holds : tie.Need-loop-holds Inv-loop μ-loop
 loop-holds c =
     let a = c .before .before .args in
@@ -23,14 +27,15 @@ loop-holds c =
 
 lane-value-requires : tie.Need-lane-value-requires Inv-loop μ-loop
 lane-value-requires c κs =
-    let a = c .before .before .before .before .args in
-    let r = c .before .before .before .before .pre in
+    let a = start (c .before) .args in
+    let r = start (c .before) .pre in
     record { governs = r .governs; inside = omega (arith, r .inside, place-within (c .before .loop .e) (a .b) (a .w) (c .loop-test .taken)) }
 
 loop-again : tie.Need-loop-again Inv-loop μ-loop
 loop-again c =
-    let a = c .before .before .before .before .before .before .args in
-    let l = c .before .before .before .loop in (
+    let t = c .before .before .before in
+    let a = start t .args in
+    let l = t .loop in (
       omega arith,
       omega arith,
       c .wrapping-add-u64 .ensures
@@ -40,7 +45,7 @@ loop-again c =
 
 returns : tie.Need-returns Inv-loop μ-loop
 returns c =
-    let a = c .before .before .before .before .args in
+    let a = start (c .before) .args in
     let end : c .before .loop .e ≡ a .b = omega arith in
     c .before .loop .inv .2 ∙ rw end
 

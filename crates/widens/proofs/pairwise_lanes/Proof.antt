@@ -16,9 +16,12 @@ Inv-loop parameters w f k z₀ p count e₀ z e = (e ≤ count) × (z ≡ fileAf
 abbrev μ-loop : tie.MeasureT-loop
 μ-loop parameters w f k z₀ p count e₀ z e = count - e
 
--- where the word stands, before the loop
+-- where the word stands, before the loop, and where a turn begins
 abbrev begin : tie.After-register-bytes Inv-loop μ-loop → tie.Start Inv-loop μ-loop
 begin c = c .before .before .before
+
+abbrev turn : tie.After-z Inv-loop μ-loop → tie.In-loop Inv-loop μ-loop
+turn c = c .before .before .before
 
 register-bytes-requires : tie.Need-register-bytes-requires Inv-loop μ-loop
 register-bytes-requires c κs = k-most _ _ _ (c .before .before .pre .word .word)
@@ -37,13 +40,13 @@ write-pairwise-requires c κs =
 
 add-e : tie.Need-add-e Inv-loop μ-loop
 add-e c =
-    let l = c .before .before .before .before in
+    let l = turn (c .before) in
     let r = l .before .before in
     omega (arith, l .loop-test .taken, few-turns _ _ _ _ _ _ _ (begin r .pre) (r .register-bytes .ensures))
 
 loop-again : tie.Need-loop-again Inv-loop μ-loop
 loop-again c =
-    let l = c .before .before .before .before in
+    let l = turn (c .before) in
     let r = l .before .before in (
       omega (arith, l .loop-test .taken),
       c .before .before .write-pairwise .ensures

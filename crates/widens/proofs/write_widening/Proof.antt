@@ -10,12 +10,15 @@ use Rattle.widens.proofs.Fed.{both-hold, placed, written, widening-fed}
 use Rattle.widens.proofs.write_widening.Statement.{statement}
 use Rattle.widens.proofs.write_widening.Tie as tie
 
--- where the sources are read from
+-- where the sources are read from, seen from where none is read and from where the first is
+abbrev lent : tie.After-register-arg → tie.Start
+lent c = c .before .before .before
+
 abbrev begin : tie.After-register → tie.Start
-begin c = c .before .before .before .before
+begin c = lent (c .before)
 
 register-requires : tie.Need-register-requires
-register-requires c κs = let h = c .before .before .before .pre .lanes .word .word in vector-in _ _ _ h _ (h .fields .n)
+register-requires c κs = let h = lent c .pre .lanes .word .word in vector-in _ _ _ h _ (h .fields .n)
 
 register-requires-2 : tie.Need-register-requires-2
 register-requires-2 c κs = let h = begin c .pre .lanes .word .word in vector-in _ _ _ h _ (second-most _ _ _ h)

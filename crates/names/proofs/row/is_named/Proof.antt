@@ -12,7 +12,7 @@ returns : tie.Need-returns
 returns c = sym (short-not _ (c .before .before .args .text .now) (c .before .before .pre) (c .if1 .taken))
 
 slice-aggregate-same-2 : tie.Need-slice-aggregate-same-2
-slice-aggregate-same-2 c = sym (length-take-le 6 (c .before .before .before .before .before .args .text .now) (c .before .before .before .if1 .left))
+slice-aggregate-same-2 c = let long = c .before .before .before in sym (length-take-le 6 (long .before .before .args .text .now) (long .if1 .left))
 
 returns-2 : tie.Need-returns-2
 returns-2 c = rw (← c .before .before .before .key-of .ensures .is) (same-exactly _ _ _ (c .same .ensures .0) (c .same .ensures .1))
