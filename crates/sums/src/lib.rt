@@ -17,10 +17,12 @@ pub fn lane_value(register: &[u8], predicate: &[u8], w: usize, signed: bool, e: 
     requires { ⌜ GovernedLane w e (now predicate) (now register) ⌝ }
     ensures { λ r. ⌜ r ≡ residue 64 (activeElement signed w (now (predicate .entry)) (now (register .entry)) e) ⌝ }
 {
-    if !lanes::is_active(predicate, w, e) {
-        return 0;
+    let number = lanes::extend(lanes::lane(register, w, e), w, signed);
+    if lanes::is_active(predicate, w, e) {
+        number
+    } else {
+        0
     }
-    lanes::extend(lanes::lane(register, w, e), w, signed)
 }
 
 // The sum of the active lanes from a up to but without b, lane by lane, modulo 2^64.

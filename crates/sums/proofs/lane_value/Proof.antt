@@ -1,7 +1,6 @@
--- `lane_value` meets its contract: an inactive lane counts as zero, and what an active one counts is its extension.
+-- `lane_value` meets its contract: what an active lane counts is its extension, and an inactive lane counts as zero.
 -- Assumes nothing.
 use borrow.Author.Needs.{needs}
-use borrow.Author.Tests.{not-true, not-false}
 use Prim.Native.Nat.{ℕ}
 use mathlib.Core.Path.{sym, _∙_, ap}
 use native.Mathlib.Omega.{arith}
@@ -13,15 +12,12 @@ use Rattle.sums.proofs.lane_value.Statement.{statement}
 use Rattle.sums.proofs.lane_value.Tie as tie
 
 -- where the register is known to hold bytes
-abbrev known : tie.After-is-active → tie.After-shared-slice-known
+abbrev known : tie.After-lane → tie.After-shared-slice-known
 known c = c .before .before
-
-returns : tie.Need-returns
-returns c = rw (sym (c .before .is-active .ensures) ∙ not-true _ (c .if1 .taken))
 
 extend-requires : tie.Need-extend-requires
 extend-requires c κs =
-    let s = known (c .before .before) in
+    let s = known c in
     let a = s .before .args in
     record {
       least = search needs;
@@ -30,12 +26,16 @@ extend-requires c κs =
           (lane-lt (a .w) (a .e) (now (a .register)) (λ i. omega (arith, s .shared-slice-known .given i)));
     }
 
+returns : tie.Need-returns
+returns c =
+    let x = c .before .before in
+    let a = known (x .before) .before .args in
+    rw (sym (c .before .is-active .ensures) ∙ c .if1 .taken)
+    (x .extend .ensures ∙ ap (λ (n : ℕ). residue 64 (integer (a .signed) (bitsOf (a .w)) n)) (x .before .lane .ensures))
+
 returns-2 : tie.Need-returns-2
-returns-2 c =
-    let a = known (c .before .before .before) .before .args in
-    rw (sym (c .before .before .before .is-active .ensures) ∙ not-false _ (c .before .before .if1 .left))
-    (c .extend .ensures ∙ ap (λ (n : ℕ). residue 64 (integer (a .signed) (bitsOf (a .w)) n)) (c .before .lane .ensures))
+returns-2 c = rw (sym (c .before .is-active .ensures) ∙ c .if1 .left)
 
 pub lane-value-spec : {M : Type 1} → statement M
 lane-value-spec =
-    tie.close (tie.spec (λ c κs. search needs) returns (λ c κs. search needs) extend-requires returns-2)
+    tie.close (tie.spec (λ c κs. search needs) extend-requires (λ c κs. search needs) returns returns-2)
