@@ -40,11 +40,12 @@ returns-3 c =
 
 returns-4 : tie.Need-returns-4
 returns-4 c =
-    let r = c .before .before .before .before .before .before in
+    let p = c .before .before .before in
+    let e = p .before .before in
+    let r = e .before in
     let a = first r .args in
-    let done = c .before .before .before .before .before .if3 .left in
     panel-laid (a .k) (now (a .z)) (now (a .p)) (a .source) (a .governing) (a .size) (now (a .out)) (right (r .before .before)) (r .before .if2 .left)
-    (r .panel-refusal .result) (r .panel-refusal .ensures) _ _ done (c .before .before .before .panel .ensures) (c .before .before .write-rows .ensures)
+    (r .panel-refusal .result) (r .panel-refusal .ensures) _ _ (e .if3 .left) (p .panel .ensures) (c .before .before .write-rows .ensures)
 
 pub ln-panel-spec : {M : Type 1} → statement M
 ln-panel-spec =

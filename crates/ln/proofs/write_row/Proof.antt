@@ -10,9 +10,13 @@ use Rattle.machine.specs.Size.{segmentBytes}
 use Rattle.ln.proofs.write_row.Statement.{statement}
 use Rattle.ln.proofs.write_row.Tie as tie
 
+-- where the function started
+abbrev begin : tie.After-row → tie.Start
+begin c = c .before .before .before
+
 returns : tie.Need-returns
 returns c =
-    let a = c .before .before .before .before .before .before .args in
+    let a = begin (c .before .before .before) .args in
     let size : length (a .t3) ≡ segmentBytes = omega arith in
     (size, c .before .before .overwrite .ensures ∙ ap (λ (n : ℕ). withPart (a .at) n (a .t3) (a .out .now)) size)
 

@@ -19,13 +19,18 @@ Inv-loop out₀ rows s₀ out s = (s ≤ mostLength) × (length out ≡ length o
 abbrev μ-loop : tie.MeasureT-loop
 μ-loop out₀ rows s₀ out s = mostLength - s
 
+-- the loop's turn, where its row is written next
+abbrev turn : tie.After-write-row-arg2 Inv-loop μ-loop → tie.At-loop Inv-loop μ-loop
+turn c = c .before .before .before
+
 loop-holds : tie.Need-loop-holds Inv-loop μ-loop
 loop-holds c = (omega arith, refl, record { same = refl; size = refl; front = refl })
 
 loop-again : tie.Need-loop-again Inv-loop μ-loop
 loop-again c =
-    let a = c .before .before .before .before .before .before .before .before in
-    let l = c .before .before .before .before .before .before .loop in
+    let t = turn (c .before .before .before) in
+    let a = t .before .before in
+    let l = t .loop in
     let w = c .before .before .write-row in (
       omega arith,
       w .kept .0 ∙ l .inv .1,

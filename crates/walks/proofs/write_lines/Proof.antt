@@ -30,7 +30,7 @@ Inv-loop out₀ k z₀ p program journal₀ at₀ position₀ out z journal at p
 abbrev μ-loop : tie.MeasureT-loop
 μ-loop out₀ k z₀ p program journal₀ at₀ position₀ out z journal at position = mostWords - position
 
--- where the step of a turn is done, and before it the turn's begin, the loop's place and where the function started
+-- where the step of a turn is done, and before it where the turn begins, the loop's place and where the function started
 abbrev turned : tie.After-struct-known Inv-loop μ-loop → tie.After-step-line Inv-loop μ-loop
 turned c = c .before .before .before .before .before .before .before
 
