@@ -33,7 +33,7 @@ use Rattle.sums.specs.Panel.{perSegment, FillsSegment}
 use Rattle.sums.proofs.Accepted.{width-legal}
 use Rattle.sums.proofs.Matters.{same-active}
 use Rattle.sums.proofs.Rows.{lane-inside, lane-place}
-use Rattle.meaning.specs.Terms.{Operands, Term, elementOf, sumOf, governedTerm}
+use Rattle.meaning.specs.Terms.{Operands, Term, elementAdded, sumOf, governedTerm}
 use Rattle.meaning.specs.Meaning.{familyTerms, lanesAfter}
 use Rattle.meaning.specs.Execute.{operandsOf, feeds, integerAfter, widthFor, lanesFor, destinationAfter}
 use Rattle.meaning.specs.Needs.{Executable}
@@ -42,9 +42,9 @@ use Rattle.elements.proofs.Halves.{element-same, half-same}
 use Rattle.meaning.proofs.Sizes.{false-not-true, vector-length, whole, wide-halves}
 
 module _ (o o′ : Operands) where
-  -- two terms are active in both or in neither, and their elements are the same where they are
+  -- two terms are active in both or in neither, and add the same where they are
   abbrev SameTerm : Term → Term → Type 0
-  SameTerm t u = (t .isActive ≡ u .isActive) × (t .isActive ≡ true → elementOf o t ≡ elementOf o′ u)
+  SameTerm t u = (t .isActive ≡ u .isActive) × (t .isActive ≡ true → elementAdded o t ≡ elementAdded o′ u)
 
   abbrev SameTerms : List Term → List Term → Type 0
   SameTerms [] [] = Unit {0}
@@ -58,7 +58,7 @@ module _ (o o′ : Operands) where
   same-sum [] (u ∷ us) h = absurd h
   same-sum (t ∷ ts) [] h = absurd h
   same-sum (t ∷ ts) (u ∷ us) h =
-      ap₂ _+ℤ_ (same-counted (t .isActive) (u .isActive) (elementOf o t) (elementOf o′ u) (h .0 .0) (h .0 .1)) (same-sum ts us (h .1))
+      ap₂ _+ℤ_ (same-counted (t .isActive) (u .isActive) (elementAdded o t) (elementAdded o′ u) (h .0 .0) (h .0 .1)) (same-sum ts us (h .1))
 
   same-each : (f g : ℕ → Term) (e n : ℕ) → ((i : ℕ) → e ≤ i → i < e + n → SameTerm (f i) (g i)) → SameTerms (each f e n) (each g e n)
   same-each f g e zero h = tt

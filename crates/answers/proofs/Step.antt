@@ -2,9 +2,10 @@
 -- exact sums, the sums modulo 2^width, the subtotal and the panel that the calls answer, and that inactive lanes do not matter.
 -- Assumes nothing.
 use Prim.Native.Nat.{ℕ, _/_, _<_}
-use mathlib.Core.Path.{_≡_, sym, _∙_, ap}
-use mathlib.Core.Bool.{true}
+use mathlib.Core.Path.{_≡_, refl, sym, _∙_, ap, ap₂}
+use mathlib.Core.Bool.{Bool, true, false, cond}
 use mathlib.Core.List.{List}
+use lib.IntN.{ℤ, _+ℤ_, _-ℤ_, +ℤ-idr}
 use Rattle.machine.specs.Size.{vectorBytes}
 use Rattle.machine.specs.Refusal.{DONE}
 use Rattle.parts.specs.Number.{bitsOf, AreBytes}
@@ -15,13 +16,15 @@ use Rattle.lanes.specs.Lane.{widthOf, lane, fromLanes}
 use Rattle.lanes.specs.Integer.{integer, residue}
 use Rattle.words.specs.Table.{formOf, familyOf}
 use Rattle.words.specs.declared.Fields.{Fields}
+use Rattle.words.specs.declared.Parameters.{Parameters}
 use Rattle.words.specs.declared.Family.the-variants.{Low, Wide}
 use Rattle.words.specs.declared.LowFamily.the-variants.{Reduction, Segment}
-use Rattle.words.specs.declared.WideFamily.the-variants.{Pairwise}
+use Rattle.words.specs.declared.WideFamily.the-variants.{Pairwise, Widening}
 use Rattle.sums.specs.Panel.{perSegment, rowsSum}
 use Rattle.sums.specs.Calls.{panelAnswer, subtotalAnswer}
+use Rattle.meaning.specs.Terms.{negatedWhere}
 use Rattle.meaning.specs.Execute.{destinationAfter, integerAfter, widthFor, lanesFor, executed}
-use Rattle.meaning.specs.Theorems.{isExact, isGoverned, governedOf, Agree}
+use Rattle.meaning.specs.Theorems.{isExact, answerSigned, element1, element2, isGoverned, governedOf, Agree}
 use Rattle.answers.proofs.Exact.{answer-modulo, answer-exact}
 use Rattle.answers.proofs.Matter.{only-active-matters}
 use Rattle.answers.proofs.Calls.{register-after, subtotal-is-the-sum, addqv-adds-the-panel}
@@ -48,12 +51,58 @@ module _ (k : ℕ) (s : State) (program journal : List ℕ) (r : ℕ) (after : S
   pub step-modulo : (e : ℕ) → e < lanesFor f k → lane (widthFor f) e (read k Vector (f .d) after) ≡ residue (bitsOf (widthFor f)) (integerAfter f k s e)
   step-modulo e h = ap (lane (widthFor f) e) step-leaves ∙ answer-modulo f k s e h
 
-  -- read at its sign it is the exact sum: saddv, uaddv below 64 bits, saddlv, uaddlv, and the widening adds
-  pub step-exact : AreBytes (s .z) → isExact (familyOf (f .row)) (f .size) ≡ true → (e : ℕ) → e < lanesFor f k
-      → integer (formOf (f .row) .parameters .signed) (bitsOf (widthFor f)) (lane (widthFor f) e (read k Vector (f .d) after)) ≡ integerAfter f k s e
+  -- read at its sign it is exact: saddv, uaddv below 64 bits, saddlv, uaddlv, the long sums, and as signed numbers the long differences
+  pub step-exact : AreBytes (s .z) → isExact (familyOf (f .row)) (formOf (f .row) .parameters) (f .size) ≡ true → (e : ℕ) → e < lanesFor f k
+      → integer (answerSigned (formOf (f .row) .parameters)) (bitsOf (widthFor f)) (lane (widthFor f) e (read k Vector (f .d) after)) ≡ integerAfter f k s e
   step-exact bytes exact e h =
-      ap (λ (l : List ℕ). integer (formOf (f .row) .parameters .signed) (bitsOf (widthFor f)) (lane (widthFor f) e l)) step-leaves
+      ap (λ (l : List ℕ). integer (answerSigned (formOf (f .row) .parameters)) (bitsOf (widthFor f)) (lane (widthFor f) e l)) step-leaves
       ∙ answer-exact f k s (known .executes) bytes exact e h
+
+  -- of the sixteen widening words: what a lane holds by its two elements, modulo 2^width; exactly for the long sums at their sign; and
+  -- exactly for the long differences as signed numbers, those of unsigned elements too
+  module _ (is : familyOf (f .row) ≡ Wide Widening) (e : ℕ) (h : e < vectorBytes k / widthOf (f .size)) where
+    abbrev ps : Parameters
+    ps = formOf (f .row) .parameters
+
+    abbrev w : ℕ
+    w = widthOf (f .size)
+
+    -- there are as many lanes of the elements' width
+    within : e < lanesFor f k
+    within = rw is h
+
+    wide-as-lanes : widthFor f ≡ w
+    wide-as-lanes = rw is
+
+    elements : integerAfter f k s e ≡ element1 f k s e +ℤ negatedWhere (ps .subtract) (element2 f k s e)
+    elements = rw is (ap (λ (z : ℤ). element1 f k s e +ℤ z) (+ℤ-idr (negatedWhere (ps .subtract) (element2 f k s e))))
+
+    pub step-widening : lane w e (read k Vector (f .d) after) ≡ residue (bitsOf w) (element1 f k s e +ℤ negatedWhere (ps .subtract) (element2 f k s e))
+    step-widening =
+        ap (λ (v : ℕ). lane v e (read k Vector (f .d) after)) (sym wide-as-lanes)
+        ∙ step-modulo e within
+        ∙ ap₂ (λ (v : ℕ) (z : ℤ). residue (bitsOf v) z) wide-as-lanes elements
+
+    module _ (bytes : AreBytes (s .z)) (long : ps .wide ≡ false) where
+      exact : integer (answerSigned ps) (bitsOf w) (lane w e (read k Vector (f .d) after)) ≡ integerAfter f k s e
+      exact =
+          ap (λ (v : ℕ). integer (answerSigned ps) (bitsOf v) (lane v e (read k Vector (f .d) after))) (sym wide-as-lanes)
+          ∙ step-exact bytes (rw (is, long) refl) e within
+
+      -- by whether the second element is subtracted
+      told : (subtract : Bool) → ps .subtract ≡ subtract
+          → integer (cond subtract true (ps .signed)) (bitsOf w) (lane w e (read k Vector (f .d) after)) ≡ element1 f k s e +ℤ negatedWhere subtract (element2 f k s e)
+      told subtract t =
+          ap (λ (b : Bool). integer (cond b true (ps .signed)) (bitsOf w) (lane w e (read k Vector (f .d) after))) (sym t)
+          ∙ exact
+          ∙ elements
+          ∙ ap (λ (b : Bool). element1 f k s e +ℤ negatedWhere b (element2 f k s e)) t
+
+      pub step-long-sum : ps .subtract ≡ false → integer (ps .signed) (bitsOf w) (lane w e (read k Vector (f .d) after)) ≡ element1 f k s e +ℤ element2 f k s e
+      step-long-sum adds = told false adds
+
+      pub step-long-difference : ps .subtract ≡ true → integer true (bitsOf w) (lane w e (read k Vector (f .d) after)) ≡ element1 f k s e -ℤ element2 f k s e
+      step-long-difference subtracts = told true subtracts
 
   -- the subtotal that the call answers for all lanes is lane 0 of what a saddv or uaddv step leaves
   pub step-subtotal : familyOf (f .row) ≡ Low Reduction

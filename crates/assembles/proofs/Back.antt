@@ -13,7 +13,7 @@ use Rattle.parts.specs.Part.{both}
 use Rattle.parts.specs.Text.{bytes}
 use Rattle.parts.proofs.Same.{both-left, both-right}
 use Rattle.machine.specs.Size.{sizes}
-use Rattle.words.specs.Table.{nameBytes, rows, rowAt, familyOf, allowsFamily}
+use Rattle.words.specs.Table.{nameBytes, rows, rowAt, familyOf, formOf, allowsFamily}
 use Rattle.words.specs.Field.{registerDigits, governingDigits, secondDigits, qDigits}
 use Rattle.words.specs.Encode.{InRange}
 use Rattle.words.specs.declared.Family.{Family}
@@ -108,11 +108,11 @@ module _ (f : Fields) (r : InRange f) where
       }
 
   -- a long form has a count of lanes last
-  long : f .g ≡ 0 → f .m ≡ 0 → f .q < 2 → textOf f ≡ nameOf (f .row) ++ bytes " " ++ listed (operandsNamed (Low Long) f)
+  long : (wide : Bool) → f .g ≡ 0 → f .m ≡ 0 → f .q < 2 → textOf f ≡ nameOf (f .row) ++ bytes " " ++ listed (operandsNamed (Low Long) wide f)
       → readAs (f .row) (Low Long) (textOf f) ≡ f
-  long hg hm hq reads =
+  long wide hg hm hq reads =
       let o = destinationOperand (Low Long) f in
-      let p = sourceOperand (Low Long) (f .n) f in
+      let p = sourceOperand (Low Long) wide (f .n) f in
       let count = lanesOf (f .q) (f .size) in
       let letter = free-letter (f .size + 1) in
       let most = length-append (decimal count) (letterOf (f .size) ∷ []) in
@@ -128,30 +128,30 @@ module _ (f : Fields) (r : InRange f) where
       (rw (size, before) (count-q (f .size) (f .q) (r .size) hq))
 
   -- the fields are read back, family by family: a field of no digits is 0
-  family-back : (family : Family) (signed : Bool) → f .g < 2 ^ governingDigits family → f .m < 2 ^ secondDigits family → f .q < 2 ^ qDigits family
-      → allowsFamily family signed (f .q) (f .size) ≡ true → textOf f ≡ nameOf (f .row) ++ bytes " " ++ listed (operandsNamed family f)
+  family-back : (family : Family) (signed wide : Bool) → f .g < 2 ^ governingDigits family → f .m < 2 ^ secondDigits family → f .q < 2 ^ qDigits family
+      → allowsFamily family signed (f .q) (f .size) ≡ true → textOf f ≡ nameOf (f .row) ++ bytes " " ++ listed (operandsNamed family wide f)
       → readAs (f .row) family (textOf f) ≡ f
-  family-back (Low Reduction) signed hg hm hq ok reads =
+  family-back (Low Reduction) signed wide hg hm hq ok reads =
       let family = Low Reduction in
-      let t = three (destinationOperand family f) (governingOperand family f) (sourceOperand family (f .n) f) (f .size) reads refl refl
+      let t = three (destinationOperand family f) (governingOperand family f) (sourceOperand family wide (f .n) f) (f .size) reads refl refl
       (register (f .d) (r .d)) (omega arith) (register (f .n) (r .n)) refl (r .size) in
       fields-same f _ _ _ _ _ _ (t .lane) (t .first) (t .second) (t .third) (omega arith) (omega arith)
-  family-back (Low Segment) signed hg hm hq ok reads =
+  family-back (Low Segment) signed wide hg hm hq ok reads =
       let family = Low Segment in
-      let t = three (destinationOperand family f) (governingOperand family f) (sourceOperand family (f .n) f) (f .size) reads refl refl
+      let t = three (destinationOperand family f) (governingOperand family f) (sourceOperand family wide (f .n) f) (f .size) reads refl refl
       (register (f .d) (r .d)) (omega arith) (register (f .n) (r .n)) refl (r .size) in
       fields-same f _ _ _ _ _ _ (t .lane) (t .first) (t .second) (t .third) (omega arith) (omega arith)
-  family-back (Low Long) signed hg hm hq ok reads = long (omega arith) (omega arith) (omega arith) reads
-  family-back (Wide Pairwise) signed hg hm hq ok reads =
+  family-back (Low Long) signed wide hg hm hq ok reads = long wide (omega arith) (omega arith) (omega arith) reads
+  family-back (Wide Pairwise) signed wide hg hm hq ok reads =
       let family = Wide Pairwise in
       let least = leb-true 1 (f .size) (both-left _ (leb (f .size) 3) ok) in
-      let t = three (destinationOperand family f) (governingOperand family f) (sourceOperand family (f .n) f) (f .size - 1) reads refl refl
+      let t = three (destinationOperand family f) (governingOperand family f) (sourceOperand family wide (f .n) f) (f .size - 1) reads refl refl
       (register (f .d) (r .d)) (omega arith) (register (f .n) (r .n)) refl (omega (arith, r .size)) in
       fields-same f _ _ _ _ _ _ (omega (arith, t .lane)) (t .first) (t .second) (t .third) (omega arith) (omega arith)
-  family-back (Wide Widening) signed hg hm hq ok reads =
+  family-back (Wide Widening) signed wide hg hm hq ok reads =
       let family = Wide Widening in
       let least = leb-true 1 (f .size) (both-left _ (leb (f .size) 3) ok) in
-      let t = three (destinationOperand family f) (sourceOperand family (f .n) f) (sourceOperand family (f .m) f) (f .size - 1) reads refl refl
+      let t = three (destinationOperand family f) (sourceOperand family wide (f .n) f) (sourceOperand family false (f .m) f) (f .size - 1) reads refl refl
       (register (f .d) (r .d)) (register (f .n) (r .n)) (register (f .m) hm) refl (omega (arith, r .size)) in
       fields-same f _ _ _ _ _ _ (omega (arith, t .lane)) (t .first) (omega arith) (t .second) (t .third) (omega arith)
 
@@ -160,5 +160,6 @@ module _ (f : Fields) (r : InRange f) where
   unfolding textOf
   read-back =
       let family = familyOf (f .row) in
-      let row = row-back (f .row) (listed (operandsNamed family f)) (r .row) in
-      ap (λ (i : ℕ). readAs i (familyOf i) (textOf f)) row ∙ family-back family _ (r .g) (r .m) (r .q) (r .allowed) refl
+      let wide = formOf (f .row) .parameters .wide in
+      let row = row-back (f .row) (listed (operandsNamed family wide f)) (r .row) in
+      ap (λ (i : ℕ). readAs i (familyOf i) (textOf f)) row ∙ family-back family _ wide (r .g) (r .m) (r .q) (r .allowed) refl

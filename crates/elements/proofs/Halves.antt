@@ -3,7 +3,7 @@
 -- Assumes nothing.
 use Prim.Native.Nat.{ℕ, _+_, _*_, _/_, _≤_, _<_}
 use mathlib.Core.Path.{_≡_, sym, _∙_, ap}
-use mathlib.Core.Bool.{Bool}
+use mathlib.Core.Bool.{Bool, true, false, cond}
 use mathlib.Core.List.{List}
 use native.Mathlib.Nat.{add-mul, mul-comm, mul-assoc, mul-le-mul-left, mul-le-mul-right, one-mul}
 use native.Mathlib.Omega.{arith}
@@ -31,6 +31,11 @@ half-number w e h l = omega (arith, mul-le-mul-left e least, mul-comm 2 e, mul-c
   where
     least : 2 ≤ w
     least = omega (arith, h, l)
+
+-- the half element that a form takes is one of the two
+pub half-taken : (top : Bool) → cond top 1 0 ≤ 1
+half-taken true = omega arith
+half-taken false = omega arith
 
 -- a half element lies in its lane
 half-part : (w e i : ℕ) (r : List ℕ) → w / 2 * 2 ≡ w → i ≤ 1 → e * w + w ≤ length r

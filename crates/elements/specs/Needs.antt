@@ -4,15 +4,12 @@ use mathlib.Core.Path.{_≡_}
 use mathlib.Core.List.{List}
 use lib.ListN.{length}
 
--- half elements 2e + i and 2e + j of two registers lie in lane e, which has w bytes
-pub record HalfLanes (w e i j : ℕ) (a b : List ℕ) : Type 0 where
+-- half elements 2e and 2e + 1 of a register lie in lane e, which has w bytes
+pub record HalfLanes (w e : ℕ) (operand : List ℕ) : Type 0 where
   pub some : 0 < w
   pub most : w ≤ 8
   pub halves : w / 2 * 2 ≡ w
-  pub first : e * w + w ≤ length a
-  pub second : e * w + w ≤ length b
-  pub left : i ≤ 1
-  pub right : j ≤ 1
+  pub inside : e * w + w ≤ length operand
 
 -- element e of 1 to 8 bytes lies within a register
 pub record ElementIn (w e : ℕ) (operand : List ℕ) : Type 0 where

@@ -41,6 +41,6 @@ words-none l = refl
 
 -- one word more is replaced
 pub words-next : (i : ℕ) (l m : List ℕ) → m ≡ filledWords i l
-    → withNumber (i * wordBytes) wordBytes (getD familyWords (i % 11) 0) m ≡ filledWords (i + 1) l
+    → withNumber (i * wordBytes) wordBytes (getD familyWords (i % length familyWords) 0) m ≡ filledWords (i + 1) l
 unfolding filledWords
 words-next i l m h = rw (add-one, h)

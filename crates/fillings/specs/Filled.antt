@@ -1,7 +1,7 @@
 -- What the trials start from: bytes by a rule that a reader can repeat, and the words that they execute.
 use Prim.Native.Nat.{ℕ, zero, suc, _+_, _*_, _%_}
 use mathlib.Core.List.{List, [], _∷_, _++_}
-use lib.ListN.{getD}
+use lib.ListN.{length, getD}
 use Rattle.parts.specs.Number.{withNumber}
 use Rattle.machine.specs.Size.{wordBytes}
 
@@ -29,8 +29,10 @@ abbrev pub familyWords : List ℕ
 familyWords =
     (0x04002463 ∷ 0x04C12463 ∷ 0x04452463 ∷ 0x4E303863 ∷ 0x6EB03863 ∷ [])
     ++ (0x4444A463 ∷ 0x44C5A463 ∷ 0x45430063 ∷ 0x45830463 ∷ 0x45C30863 ∷ 0x45430C63 ∷ [])
+    ++ (0x45441063 ∷ 0x45831483 ∷ 0x45C51863 ∷ 0x45431CA3 ∷ 0x45834063 ∷ 0x45C44463 ∷ [])
+    ++ (0x45434883 ∷ 0x45854C63 ∷ 0x45C350A3 ∷ 0x45435463 ∷ 0x45845863 ∷ 0x45C35C83 ∷ [])
 
 -- a program with so many of its first words replaced by these, one after the other and again from the first
 unfoldable pub filledWords : ℕ → List ℕ → List ℕ
 filledWords zero program = program
-filledWords (suc count) program = withNumber (count * wordBytes) wordBytes (getD familyWords (count % 11) 0) (filledWords count program)
+filledWords (suc count) program = withNumber (count * wordBytes) wordBytes (getD familyWords (count % length familyWords) 0) (filledWords count program)

@@ -49,7 +49,7 @@ pub fn fill_predicates(p: &mut [u8])
 }
 
 // How many words there are.
-pub const COUNT: usize = 11;
+pub const COUNT: usize = 23;
 
 // The words that are executed, one of every row, each with its destination among its sources.
 const SADDV: u64 = 0x04002463;
@@ -74,6 +74,30 @@ const UADDLB: u64 = 0x45C30863;
 
 const UADDLT: u64 = 0x45430C63;
 
+const SSUBLB: u64 = 0x45441063;
+
+const SSUBLT: u64 = 0x45831483;
+
+const USUBLB: u64 = 0x45C51863;
+
+const USUBLT: u64 = 0x45431CA3;
+
+const SADDWB: u64 = 0x45834063;
+
+const SADDWT: u64 = 0x45C44463;
+
+const UADDWB: u64 = 0x45434883;
+
+const UADDWT: u64 = 0x45854C63;
+
+const SSUBWB: u64 = 0x45C350A3;
+
+const SSUBWT: u64 = 0x45435463;
+
+const USUBWB: u64 = 0x45845863;
+
+const USUBWT: u64 = 0x45C35C83;
+
 const WORDS: [u64; COUNT] = [
     SADDV,
     UADDV,
@@ -86,6 +110,18 @@ const WORDS: [u64; COUNT] = [
     SADDLT,
     UADDLB,
     UADDLT,
+    SSUBLB,
+    SSUBLT,
+    USUBLB,
+    USUBLT,
+    SADDWB,
+    SADDWT,
+    UADDWB,
+    UADDWT,
+    SSUBWB,
+    SSUBWT,
+    USUBWB,
+    USUBWT,
 ];
 
 // Fills a program with those words, one after the other and again from the first.

@@ -10,7 +10,7 @@ use native.Mathlib.Omega.{arith}
 use lib.Dec.{T, ltb, ltb→lt, nltb→le}
 use lib.Bits.{bitXor, xor-comm, xor-shifted, xor-block, xor-zero-r}
 use lib.Pow.{pow-pos, pow-mono, pow-lt}
-use lib.IntN.{ℤ, pos, negsuc, subℕ, _+ℤ_, natAbs}
+use lib.IntN.{ℤ, pos, negsuc, subℕ, _+ℤ_, _-ℤ_, negℤ, natAbs, -ℤ-+ℤ-cancel}
 use borrow.Author.Tests.{lt-ltb, ltb-true, ltb-false, le-leb, lt-leb, leb-true, leb-false}
 use Rattle.parts.specs.Part.{both}
 use Rattle.lanes.specs.Integer.{isNegative, integer, residue, FitsAt}
@@ -48,6 +48,11 @@ abs-sum (pos a) (pos b) = omega arith
 abs-sum (pos a) (negsuc b) = sub-cases a (suc b) (λ z. natAbs z ≤ a + suc b) (λ h. omega arith) (λ h. omega arith)
 abs-sum (negsuc a) (pos b) = sub-cases b (suc a) (λ z. natAbs z ≤ suc a + b) (λ h. omega arith) (λ h. omega arith)
 abs-sum (negsuc a) (negsuc b) = omega arith
+
+pub abs-negative : (z : ℤ) → natAbs (negℤ z) ≡ natAbs z
+abs-negative (pos zero) = refl
+abs-negative (pos (suc n)) = refl
+abs-negative (negsuc n) = refl
 
 -- modulo suc m, two pairs of parts with one difference come to the same
 same-modulo : (m P Q p q : ℕ) → P + q ≡ p + Q → (P + m * Q) % suc m ≡ (p + m * q) % suc m
@@ -104,6 +109,21 @@ residue-sum D x y = go (2 ^ D - 1) (omega (arith, pow-pos D))
 pub residue-lt : (D : ℕ) (z : ℤ) → residue D z < 2 ^ D
 residue-lt D (pos n) = mod-lt n (pow-pos D)
 residue-lt D (negsuc n) = omega (arith, pow-pos D)
+
+-- adding c modulo M is taken back by adding what is left of M
+taken-back : (M a c : ℕ) → c < M → a < M → ((a + c) % M + (M - c) % M) % M ≡ a
+taken-back M a c small below =
+    sym (add-mod (a + c) (M - c) M) ∙ ap (λ (n : ℕ). n % M) (omega (arith, mul-comm M 1, one-mul M)) ∙ add-mul-mod-self-left a M 1 ∙ mod-eq-of-lt below
+
+-- the low digits of a difference: the number that the second's digits added to wrap to the first's
+pub residue-difference : (D : ℕ) (x y : ℤ) (r : ℕ) → r < 2 ^ D → (r + residue D y) % 2 ^ D ≡ residue D x → r ≡ residue D (x -ℤ y)
+residue-difference D x y r below wraps =
+    let M = 2 ^ D in
+    let c = residue D y in
+    let again : (r + c) % M ≡ (residue D (x -ℤ y) + c) % M = wraps ∙ sym (sym (residue-sum D (x -ℤ y) y) ∙ ap (residue D) (-ℤ-+ℤ-cancel x y)) in
+    sym (taken-back M r c (residue-lt D y) below)
+    ∙ ap (λ (n : ℕ). (n + (M - c) % M) % M) again
+    ∙ taken-back M (residue D (x -ℤ y)) c (residue-lt D y) (residue-lt D (x -ℤ y))
 
 -- digits read at their sign give back the integer, where it fits
 pub integer-residue : (signed : Bool) (D : ℕ) (z : ℤ) → FitsAt signed D z → integer signed D (residue D z) ≡ z

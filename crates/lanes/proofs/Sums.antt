@@ -8,14 +8,15 @@ use mathlib.Core.List.{List, [], _∷_, _++_, map}
 use native.Mathlib.Nat.{add-comm, suc-mul, zero-mod, zero-add, add-zero, suc-add, add-suc}
 use native.Mathlib.Omega.{arith}
 use lib.ListN.{length}
-use lib.IntN.{ℤ, pos, negsuc, subℕ, _+ℤ_, natAbs, +ℤ-idl, +ℤ-idr, +ℤ-assoc}
+use lib.Pow.{pow-add}
+use lib.IntN.{ℤ, pos, negsuc, subℕ, _+ℤ_, negℤ, natAbs, +ℤ-idl, +ℤ-idr, +ℤ-assoc}
 use borrow.Author.Tests.{lt-ltb, leb-true, leb-false}
 use Rattle.parts.specs.Number.{bitsOf, AreBytes}
 use Rattle.lanes.specs.Integer.{isNegative, integer, residue, FitsAt}
 use Rattle.lanes.specs.Lane.{lane}
 use Rattle.lanes.specs.Sum.{each, element, counted, total, wrappedSum}
 use Rattle.lanes.proofs.Bytes.{lane-lt}
-use Rattle.lanes.proofs.Residues.{abs-sum, residue-sum, integer-residue}
+use Rattle.lanes.proofs.Residues.{abs-sum, abs-negative, residue-sum, residue-difference, integer-residue}
 
 -- a sum of low digits, rounded after each, is the low digits of the exact sum
 pub wrapped-sum : (D : ℕ) (zs : List ℤ) → wrappedSum D (map (residue D) zs) ≡ residue D (total zs)
@@ -25,6 +26,10 @@ wrapped-sum D (z ∷ zs) = ap (λ (n : ℕ). (residue D z + n) % 2 ^ D) (wrapped
 -- the low digits of two integers' sum
 pub residue-two : (D : ℕ) (x y : ℤ) → residue D (total (x ∷ y ∷ [])) ≡ (residue D x + residue D y) % 2 ^ D
 residue-two D x y = ap (λ (z : ℤ). residue D (x +ℤ z)) (+ℤ-idr y) ∙ residue-sum D x y
+
+-- and of their difference
+pub residue-less : (D : ℕ) (x y : ℤ) (r : ℕ) → r < 2 ^ D → (r + residue D y) % 2 ^ D ≡ residue D x → r ≡ residue D (total (x ∷ negℤ y ∷ []))
+residue-less D x y r below wraps = residue-difference D x y r below wraps ∙ ap (λ (z : ℤ). residue D (x +ℤ z)) (sym (+ℤ-idr (negℤ y)))
 
 -- an integer that lies within B: at most B, and where it is signed at most half of B from zero
 abbrev pub Within : Bool → ℕ → ℤ → Type 0
@@ -60,6 +65,29 @@ within-fits false B E (negsuc n) w h = absurd w
 pub within-counted : (t signed : Bool) (w e : ℕ) (r : List ℕ) → AreBytes r → Within signed (2 ^ bitsOf w) (counted t (element signed w r e))
 within-counted true signed w e r h = within-integer signed (bitsOf w) (lane w e r) (lane-lt w e r h)
 within-counted false signed w e r h = within-zero signed (2 ^ bitsOf w)
+
+-- it lies within a greater bound too
+pub within-more : (signed : Bool) (A B : ℕ) (z : ℤ) → A ≤ B → Within signed A z → Within signed B z
+within-more true A B z h w = omega arith
+within-more false A B (pos n) h w = omega arith
+within-more false A B (negsuc n) h w = absurd w
+
+-- and read as signed, whatever its own sign is, so does what an element adds or takes away, with one digit more
+pub within-signed : (t subtract signed : Bool) (w e : ℕ) (r : List ℕ) → AreBytes r
+    → Within true (2 ^ (1 + bitsOf w)) (counted t (cond subtract (negℤ (element signed w r e)) (element signed w r e)))
+within-signed t subtract signed w e r h = rw (pow-add 2 1 (bitsOf w)) (go t subtract)
+  where
+    small : natAbs (element signed w r e) ≤ 2 ^ bitsOf w
+    small = by signed (within-integer signed (bitsOf w) (lane w e r) (lane-lt w e r h))
+      where
+        by : (signed : Bool) → Within signed (2 ^ bitsOf w) (element signed w r e) → natAbs (element signed w r e) ≤ 2 ^ bitsOf w
+        by true within = omega arith
+        by false within = within
+
+    go : (t subtract : Bool) → 2 * natAbs (counted t (cond subtract (negℤ (element signed w r e)) (element signed w r e))) ≤ 2 ^ 1 * 2 ^ bitsOf w
+    go true true = rw (abs-negative (element signed w r e)) (omega (arith, small))
+    go true false = omega (arith, small)
+    go false subtract = omega arith
 
 -- every integer of a list lies within B
 abbrev pub AllWithin : Bool → ℕ → List ℤ → Type 0

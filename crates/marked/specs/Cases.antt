@@ -99,4 +99,11 @@ cases =
     ∷ undefinedWord 0x2EB03800
     ∷ undefinedWord 0x45000000
     ∷ case 0x6EB03800 1 [] [] 0 (bytes "uaddlv d0, v0.4s")
+    -- beyond the paper's: differences below zero, signed and unsigned; a whole lane with a half lane, which wrap; the top halves
+    ∷ case 0x45421020 1 (ones 1 ∷ source (0x80 ∷ []) ∷ (2, 0x7F ∷ []) ∷ []) [] 0xFF01 (bytes "ssublb z0.h, z1.b, z2.b")
+    ∷ case 0x45421C20 1 (ones 1 ∷ source (0xAA ∷ 0x00 ∷ []) ∷ (2, 0x55 ∷ 0xFF ∷ []) ∷ []) [] 0xFF01 (bytes "usublt z0.h, z1.b, z2.b")
+    ∷ case 0x45424020 1 (ones 1 ∷ source (0xFF ∷ 0x7F ∷ []) ∷ (2, 0x01 ∷ 0x55 ∷ []) ∷ []) [] 0x8000 (bytes "saddwb z0.h, z1.h, z2.b")
+    ∷ case 0x45424C20 1 (ones 1 ∷ source (0xFF ∷ 0xFF ∷ []) ∷ (2, 0x55 ∷ 0xFF ∷ []) ∷ []) [] 0x00FE (bytes "uaddwt z0.h, z1.h, z2.b")
+    ∷ case 0x45425020 1 (ones 1 ∷ source [] ∷ (2, 0xFF ∷ []) ∷ []) [] 0x0001 (bytes "ssubwb z0.h, z1.h, z2.b")
+    ∷ case 0x45425820 1 (ones 1 ∷ source [] ∷ (2, 0xFF ∷ []) ∷ []) [] 0xFF01 (bytes "usubwb z0.h, z1.h, z2.b")
     ∷ []

@@ -23,7 +23,7 @@ lowTerms Long ps w q bytes mask e = longTerms (ps .signed) w q
 -- of those that write every lane
 abbrev pub wideTerms : WideFamily → Parameters → ℕ → List ℕ → ℕ → List Term
 wideTerms Pairwise ps w mask e = pairwiseTerms (ps .signed) w mask e
-wideTerms Widening ps w mask e = wideningTerms (ps .signed) (ps .top) w e
+wideTerms Widening ps w mask e = wideningTerms ps w e
 
 abbrev pub familyTerms : Family → Parameters → ℕ → ℕ → ℕ → List ℕ → ℕ → List Term
 familyTerms (Low low) ps w q bytes mask e = lowTerms low ps w q bytes mask e

@@ -3,10 +3,11 @@
 use Prim.Native.Nat.{ℕ, _+_, _*_, _/_, _^_}
 use mathlib.Core.Bool.{Bool, true, false, cond}
 use mathlib.Core.List.{List, [], _∷_, map}
-use lib.IntN.{ℤ}
+use lib.IntN.{ℤ, negℤ}
 use Rattle.machine.specs.Size.{segmentBytes}
 use Rattle.lanes.specs.Lane.{active}
 use Rattle.lanes.specs.Sum.{each, element, counted, total}
+use Rattle.words.specs.declared.Parameters.{Parameters}
 use Rattle.sums.specs.Panel.{perSegment}
 
 -- the registers that elements are taken from: Z[n], Z[m] and the old Z[d]
@@ -26,9 +27,10 @@ operandOf o Operand1 = o .operand1
 operandOf o Operand2 = o .operand2
 operandOf o Old = o .old
 
--- what may feed a lane: an element of some bytes of an operand, by its number, read at its sign, if it is active
+-- what may feed a lane: an element of some bytes of an operand, by its number, read at its sign, if it is active; added or subtracted
 pub record Term : Type 0 where
   pub isActive : Bool
+  pub isSubtracted : Bool
   pub source : Source
   pub signed : Bool
   pub width : ℕ
@@ -36,15 +38,28 @@ pub record Term : Type 0 where
 
 abbrev pub term : Bool → Source → Bool → ℕ → ℕ → Term
 term isActive source signed width number =
-    record { isActive = isActive; source = source; signed = signed; width = width; number = number }
+    record { isActive = isActive; isSubtracted = false; source = source; signed = signed; width = width; number = number }
+
+-- the same term, subtracted where that is asked
+abbrev pub subtractedWhere : Bool → Term → Term
+subtractedWhere subtract t =
+    record { isActive = t .isActive; isSubtracted = subtract; source = t .source; signed = t .signed; width = t .width; number = t .number }
 
 -- Int(Elem[operand, e, esize], unsigned)
 abbrev pub elementOf : Operands → Term → ℤ
 elementOf o t = element (t .signed) (t .width) (operandOf o (t .source)) (t .number)
 
--- what a term adds: its element if that is active, else nothing
+-- an integer, or its negative where it is subtracted
+abbrev pub negatedWhere : Bool → ℤ → ℤ
+negatedWhere subtract z = cond subtract (negℤ z) z
+
+-- what an active term adds: its element, or that one's negative
+abbrev pub elementAdded : Operands → Term → ℤ
+elementAdded o t = negatedWhere (t .isSubtracted) (elementOf o t)
+
+-- what a term adds: that if it is active, else nothing
 abbrev pub added : Operands → Term → ℤ
-added o t = counted (t .isActive) (elementOf o t)
+added o t = counted (t .isActive) (elementAdded o t)
 
 -- the exact sum of what feeds a lane
 abbrev pub sumOf : Operands → List Term → ℤ
@@ -82,10 +97,18 @@ pairwiseTerms signed w mask e =
     ∷ term (active w e mask) Operand1 signed (w / 2) (2 * e + 1)
     ∷ []
 
--- SADDLB, SADDLT, UADDLB, UADDLT: the half-width elements 2*e + sel of both operands, where sel is 1 for the top
+-- SADDLB to USUBWT, sixteen words of four parameters. sel is 1 for the top
 abbrev pub selected : Bool → ℕ → ℕ
 selected top e = 2 * e + cond top 1 0
 
-abbrev pub wideningTerms : Bool → Bool → ℕ → ℕ → List Term
-wideningTerms signed top w e =
-    term true Operand1 signed (w / 2) (selected top e) ∷ term true Operand2 signed (w / 2) (selected top e) ∷ []
+-- the half-width element 2*e + sel of an operand
+abbrev pub halfTerm : Source → Parameters → ℕ → ℕ → Term
+halfTerm source ps w e = term true source (ps .signed) (w / 2) (selected (ps .top) e)
+
+-- element1: that of the first operand, or, in a wide form, its element e
+abbrev pub firstTerm : Parameters → ℕ → ℕ → Term
+firstTerm ps w e = term true Operand1 (ps .signed) (cond (ps .wide) w (w / 2)) (cond (ps .wide) e (selected (ps .top) e))
+
+-- element1 + element2 or element1 - element2, where element2 is that of the second operand
+abbrev pub wideningTerms : Parameters → ℕ → ℕ → List Term
+wideningTerms ps w e = firstTerm ps w e ∷ subtractedWhere (ps .subtract) (halfTerm Operand2 ps w e) ∷ []

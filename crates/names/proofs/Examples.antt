@@ -20,6 +20,9 @@ pub example-texts : map textOfWord
     ∷ 0x6EB03800
     ∷ 0x04053FFF
     ∷ 0x4445BFFF
+    ∷ 0x45421020
+    ∷ 0x45424020
+    ∷ 0x45DF5FFF
     ∷ [])
     ≡ bytes "saddv d0, p0, z1.b"
     ∷ bytes "uaddlv h2, v1.8b"
@@ -30,6 +33,9 @@ pub example-texts : map textOfWord
     ∷ bytes "uaddlv d0, v0.4s"
     ∷ bytes "addqv v31.16b, p7, z31.b"
     ∷ bytes "uadalp z31.h, p7/m, z31.b"
+    ∷ bytes "ssublb z0.h, z1.b, z2.b"
+    ∷ bytes "saddwb z0.h, z1.h, z2.b"
+    ∷ bytes "usubwt z31.d, z31.d, z31.s"
     ∷ []
 unfolding decoded rowAt rowOf placeFrom matches digitsAnd textOf keyOf nameOf digitOf digitsIn widthWithin decimalWidth letterOf
 example-texts = refl

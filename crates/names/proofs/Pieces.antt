@@ -2,7 +2,7 @@
 -- Assumes nothing.
 use mathlib.Core.Path.{_≡_, refl, _∙_, ap}
 use mathlib.Core.List.{List, [], _∷_, _++_, append-assoc, append-nil}
-use mathlib.Core.Bool.{Bool, true}
+use mathlib.Core.Bool.{Bool, true, false}
 use Prim.Native.Nat.{ℕ, zero, suc, _+_, _^_, _≤_, _<_}
 use native.Mathlib.Nat.{lt-of-lt-of-le}
 use native.Mathlib.Omega.{arith}
@@ -12,7 +12,7 @@ use borrow.Author.Tests.{ltb-true}
 use Rattle.parts.specs.Text.{bytes}
 use Rattle.machine.specs.Size.{sizes}
 use Rattle.words.specs.Digits.{digitsAnd}
-use Rattle.words.specs.Table.{rowAt, rowOf, familyOf, matches, placeFrom}
+use Rattle.words.specs.Table.{rowAt, rowOf, familyOf, formOf, matches, placeFrom}
 use Rattle.words.specs.Field.{registerDigits, governingDigits, secondDigits, qDigits}
 use Rattle.words.specs.Decode.{decoded}
 use Rattle.words.specs.Encode.{InRange}
@@ -21,6 +21,7 @@ use Rattle.words.specs.declared.Family.the-variants.{Low, Wide}
 use Rattle.words.specs.declared.LowFamily.the-variants.{Reduction, Segment, Long}
 use Rattle.words.specs.declared.WideFamily.the-variants.{Pairwise, Widening}
 use Rattle.words.specs.declared.Fields.{Fields}
+use Rattle.words.specs.declared.Form.{Form}
 use Rattle.words.specs.declared.Decoded.{Decoded}
 use Rattle.words.specs.declared.Decoded.the-variants.{Unknown, Undefined, Word}
 use Rattle.words.proofs.Decoding.{governing-below, second-below, q-below}
@@ -38,12 +39,12 @@ use Rattle.names.proofs.Keys.{row-good}
 abbrev pub front : Fields → Operand → List ℕ
 front f o = nameOf (f .row) ++ bytes " " ++ operandText o
 
-abbrev pub pieces : Family → Fields → List ℕ
-pieces family f =
+abbrev pub pieces : Family → Bool → Fields → List ℕ
+pieces family wide f =
     front f (destinationOperand family f)
     ++ further (governingDigits family) (governingOperand family f)
-    ++ further registerDigits (sourceOperand family (f .n) f)
-    ++ further (secondDigits family) (sourceOperand family (f .m) f)
+    ++ further registerDigits (sourceOperand family wide (f .n) f)
+    ++ further (secondDigits family) (sourceOperand family false (f .m) f)
 
 -- an operand that is there or not, before others
 following-where : (digits : ℕ) (o : Operand) (os : List Operand) → following (whereIn digits o os) ≡ further digits o ++ following os
@@ -57,15 +58,15 @@ further-some (suc digits) o h = refl
 regroup : (a t u v w : List ℕ) → a ++ (t ++ (u ++ (v ++ (w ++ [])))) ≡ a ++ t ++ u ++ v ++ w
 regroup a t u v w = simp (append-assoc, append-nil)
 
-pub text-pieces : (f : Fields) → textOf f ≡ pieces (familyOf (f .row)) f
+pub text-pieces : (f : Fields) → textOf f ≡ pieces (familyOf (f .row)) (formOf (f .row) .parameters .wide) f
 unfolding textOf
 text-pieces f =
     let family = familyOf (f .row) in
     let front = nameOf (f .row) ++ bytes " " in
     let o = destinationOperand family f in
     let p = governingOperand family f in
-    let n = sourceOperand family (f .n) f in
-    let m = sourceOperand family (f .m) f in
+    let n = sourceOperand family (formOf (f .row) .parameters .wide) (f .n) f in
+    let m = sourceOperand family false (f .m) f in
     ap (λ (l : List ℕ). front ++ (operandText o ++ l))
     (following-where (governingDigits family) p (n ∷ whereIn (secondDigits family) m [])
     ∙ ap (λ (l : List ℕ). further (governingDigits family) p ++ (further registerDigits n ++ l)) (following-where (secondDigits family) m []))
@@ -86,11 +87,11 @@ lanes-most q size hq hs =
 
 pub text-length : (f : Fields) → InRange f → length (textOf f) ≤ mostText
 unfolding textOf
-text-length f r = go (familyOf (f .row)) (r .g) (r .m) (r .q)
+text-length f r = go (familyOf (f .row)) (formOf (f .row) .parameters .wide) (r .g) (r .m) (r .q)
   where
-    go : (family : Family) → f .g < 2 ^ governingDigits family → f .m < 2 ^ secondDigits family → f .q < 2 ^ qDigits family
-        → length (nameOf (f .row) ++ bytes " " ++ listed (operandsNamed family f)) ≤ mostText
-    go family hg hm hq =
+    go : (family : Family) (wide : Bool) → f .g < 2 ^ governingDigits family → f .m < 2 ^ secondDigits family → f .q < 2 ^ qDigits family
+        → length (nameOf (f .row) ++ bytes " " ++ listed (operandsNamed family wide f)) ≤ mostText
+    go family wide hg hm hq =
         let name = simp length-append at (row-good (f .row) (r .row) .name) in
         let d = decimal-short (f .d) (lt-of-lt-of-le (r .d) (omega arith)) in
         let n = decimal-short (f .n) (lt-of-lt-of-le (r .n) (omega arith)) in
@@ -103,7 +104,7 @@ text-length f r = go (familyOf (f .row)) (r .g) (r .m) (r .q)
         by : (family : Family) → length (nameOf (f .row)) + 1 ≤ 7 → length (decimal (f .d)) ≤ 2 → length (decimal (f .n)) ≤ 2
             → length (decimal (f .g)) ≤ 2 → length (decimal (f .m)) ≤ 2 → length (decimal (lanesOf (f .q) (f .size))) ≤ 2
             → length (decimal (lanesOf 1 (f .size))) ≤ 2
-            → length (nameOf (f .row) ++ bytes " " ++ listed (operandsNamed family f)) ≤ mostText
+            → length (nameOf (f .row) ++ bytes " " ++ listed (operandsNamed family wide f)) ≤ mostText
         by (Low Reduction) a d n g m l w = simp length-append (omega arith)
         by (Low Segment) a d n g m l w = simp length-append (omega arith)
         by (Low Long) a d n g m l w = simp length-append (omega arith)
@@ -111,31 +112,31 @@ text-length f r = go (familyOf (f .row)) (r .g) (r .m) (r .q)
         by (Wide Widening) a d n g m l w = simp length-append (omega arith)
 
 -- the pieces as a caller has them: each the one of its family, the digits of its field first where it may be missing
-module _ (f : Fields) (family : Family) (is : family ≡ familyOf (f .row)) (o : Operand) (first : o ≡ destinationOperand family f) where
-  pub text-written : (g : ℕ) (p n : Operand) (s : ℕ) (m : Operand) → g ≡ governingDigits family → p ≡ governingOperand family f
-      → n ≡ sourceOperand family (f .n) f → s ≡ secondDigits family → m ≡ sourceOperand family (f .m) f
+module _ (f : Fields) (form : Form) (is : form ≡ formOf (f .row)) (o : Operand) (first : o ≡ destinationOperand (form .family) f) where
+  pub text-written : (g : ℕ) (p n : Operand) (s : ℕ) (m : Operand) → g ≡ governingDigits (form .family) → p ≡ governingOperand (form .family) f
+      → n ≡ sourceOperand (form .family) (form .parameters .wide) (f .n) f → s ≡ secondDigits (form .family) → m ≡ sourceOperand (form .family) false (f .m) f
       → textOf f ≡ front f o ++ further g p ++ further registerDigits n ++ further s m
   text-written g p n s m eg ep en es em = rw (first, eg, ep, en, es, em, is) (text-pieces f)
 
   -- there is room for each in an output that naming takes
   module _ (r : InRange f) (room : ℕ) (long : leastOut ≤ room) where
-    pub room-four : (g : ℕ) (p n : Operand) (s : ℕ) (m : Operand) → g ≡ governingDigits family → p ≡ governingOperand family f
-        → n ≡ sourceOperand family (f .n) f → s ≡ secondDigits family → m ≡ sourceOperand family (f .m) f
+    pub room-four : (g : ℕ) (p n : Operand) (s : ℕ) (m : Operand) → g ≡ governingDigits (form .family) → p ≡ governingOperand (form .family) f
+        → n ≡ sourceOperand (form .family) (form .parameters .wide) (f .n) f → s ≡ secondDigits (form .family) → m ≡ sourceOperand (form .family) false (f .m) f
         → 0 + length (front f o ++ further g p ++ further registerDigits n ++ further s m) ≤ room
     room-four g p n s m eg ep en es em =
         rw (← text-written g p n s m eg ep en es em) (omega (arith, text-length f r))
 
-    pub room-three : (g : ℕ) (p n : Operand) → g ≡ governingDigits family → p ≡ governingOperand family f → n ≡ sourceOperand family (f .n) f
+    pub room-three : (g : ℕ) (p n : Operand) → g ≡ governingDigits (form .family) → p ≡ governingOperand (form .family) f → n ≡ sourceOperand (form .family) (form .parameters .wide) (f .n) f
         → 0 + length (front f o ++ further g p ++ further registerDigits n) ≤ room
-    room-three g p n eg ep en = room-first 0 (front f o ++ further g p ++ further registerDigits n) (further (secondDigits family) (sourceOperand family (f .m) f))
+    room-three g p n eg ep en = room-first 0 (front f o ++ further g p ++ further registerDigits n) (further (secondDigits (form .family)) (sourceOperand (form .family) false (f .m) f))
         (room-four g p n _ _ eg ep en refl refl)
 
-    pub room-two : (g : ℕ) (p : Operand) → g ≡ governingDigits family → p ≡ governingOperand family f
+    pub room-two : (g : ℕ) (p : Operand) → g ≡ governingDigits (form .family) → p ≡ governingOperand (form .family) f
         → 0 + length (front f o ++ further g p) ≤ room
-    room-two g p eg ep = room-first 0 (front f o ++ further g p) (further registerDigits (sourceOperand family (f .n) f)) (room-three g p _ eg ep refl)
+    room-two g p eg ep = room-first 0 (front f o ++ further g p) (further registerDigits (sourceOperand (form .family) (form .parameters .wide) (f .n) f)) (room-three g p _ eg ep refl)
 
     pub room-one : 0 + length (front f o) ≤ room
-    room-one = room-first 0 (front f o) (further (governingDigits family) (governingOperand family f)) (room-two _ _ refl refl)
+    room-one = room-first 0 (front f o) (further (governingDigits (form .family)) (governingOperand (form .family) f)) (room-two _ _ refl refl)
 
 -- so has a word's, whatever the word is
 pub word-length : (word : ℕ) → length (textOfWord word) ≤ mostText

@@ -2,18 +2,19 @@
 use mathlib.Core.Path.{_≡_}
 use Prim.Native.Nat.{ℕ, zero, suc, _+_, _*_, _-_, _/_, _^_}
 use Prim.Native.Char.{code}
-use mathlib.Core.Bool.{cond}
+use mathlib.Core.Bool.{Bool, false, cond}
 use mathlib.Core.List.{List, [], _∷_, _++_, map}
 use lib.Dec.{eqb}
 use lib.ListN.{getD, take, length}
 use Rattle.parts.specs.Part.{sameBytes}
 use Rattle.parts.specs.Text.{bytes}
-use Rattle.words.specs.Table.{nameBytes, table, rowAt, familyOf}
+use Rattle.words.specs.Table.{nameBytes, table, rowAt, familyOf, formOf}
 use Rattle.words.specs.Field.{governingDigits, secondDigits}
 use Rattle.words.specs.declared.Row.{Row}
 use Rattle.words.specs.declared.Family.{Family}
 use Rattle.words.specs.declared.Family.the-variants.{Low, Wide}
 use Rattle.words.specs.declared.LowFamily.the-variants.{Reduction, Segment, Long}
+use Rattle.words.specs.declared.WideFamily.the-variants.{Pairwise, Widening}
 use Rattle.words.specs.declared.Fields.{Fields}
 use Rattle.digits.specs.Digits.{decimal}
 use Rattle.names.specs.declared.Suffix.{Suffix}
@@ -87,24 +88,26 @@ abbrev pub governingOperand : Family → Fields → Operand
 governingOperand (Low low) f = operand (code "p") (f .g) Plain
 governingOperand (Wide wide) f = operand (code "p") (f .g) Merging
 
--- a source of a number
-abbrev pub sourceOperand : Family → ℕ → Fields → Operand
-sourceOperand (Low Reduction) number f = operand (code "z") number (Lane (f .size))
-sourceOperand (Low Segment) number f = operand (code "z") number (Lane (f .size))
-sourceOperand (Low Long) number f = operand (code "v") number (Lanes (lanesOf (f .q) (f .size)) (f .size))
-sourceOperand (Wide wide) number f = operand (code "z") number (Lane (f .size - 1))
+-- a source of a number; that of a word that writes every lane has half the width, but in a widening word it may have the full one
+abbrev pub sourceOperand : Family → Bool → ℕ → Fields → Operand
+sourceOperand (Low Reduction) full number f = operand (code "z") number (Lane (f .size))
+sourceOperand (Low Segment) full number f = operand (code "z") number (Lane (f .size))
+sourceOperand (Low Long) full number f = operand (code "v") number (Lanes (lanesOf (f .q) (f .size)) (f .size))
+sourceOperand (Wide Pairwise) full number f = operand (code "z") number (Lane (f .size - 1))
+sourceOperand (Wide Widening) full number f = operand (code "z") number (Lane (cond full (f .size) (f .size - 1)))
 
 -- an operand before others, where its field has digits
 abbrev pub whereIn : ℕ → Operand → List Operand → List Operand
 whereIn zero o os = os
 whereIn (suc digits) o os = o ∷ os
 
--- the operands of a family: the destination, the governing predicate, the source and the second source, those that it has fields for
-abbrev pub operandsNamed : Family → Fields → List Operand
-operandsNamed family f =
+-- the operands of a family: the destination, the governing predicate, the source and the second source, those that it has fields for; the
+-- source has the full width in a wide form
+abbrev pub operandsNamed : Family → Bool → Fields → List Operand
+operandsNamed family wide f =
     destinationOperand family f
     ∷ whereIn (governingDigits family) (governingOperand family f)
-    (sourceOperand family (f .n) f ∷ whereIn (secondDigits family) (sourceOperand family (f .m) f) [])
+    (sourceOperand family wide (f .n) f ∷ whereIn (secondDigits family) (sourceOperand family false (f .m) f) [])
 
 -- the operands that follow the first, each with a comma and a space before it
 abbrev pub following : List Operand → List ℕ
@@ -123,4 +126,4 @@ listed (o ∷ os) = operandText o ++ following os
 
 -- the text of a word with these fields
 unfoldable pub textOf : Fields → List ℕ
-textOf f = nameOf (f .row) ++ bytes " " ++ listed (operandsNamed (familyOf (f .row)) f)
+textOf f = nameOf (f .row) ++ bytes " " ++ listed (operandsNamed (familyOf (f .row)) (formOf (f .row) .parameters .wide) f)

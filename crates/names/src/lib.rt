@@ -13,7 +13,9 @@ use words::Decoded;
 use words::Family;
 use words::Fields;
 use words::LowFamily;
+use words::WideFamily;
 ghost use mathlib.Core.Path.{_≡_};
+ghost use mathlib.Core.Bool.{cond};
 ghost use mathlib.Core.List.{_++_};
 ghost use Prim.Native.Nat.{_+_, _-_, _≤_, _<_};
 ghost use lib.ListN.{length};
@@ -146,6 +148,13 @@ fn half(size: usize) -> usize
     if size == 0 { 0 } else { size - 1 }
 }
 
+// The size of a widening word's source: the full width's, or that of half the width.
+fn widening_size(full: bool, size: usize) -> usize
+    ensures { λ r. ⌜ r ≡ cond full size (size - 1) ⌝ }
+{
+    if full { size } else { half(size) }
+}
+
 // The destination.
 fn destination(family: Family, f: Fields) -> Operand
     requires { ⌜ (f .size < sizes) × (f .q < 2) ⌝ }
@@ -173,9 +182,9 @@ fn governing(family: Family, f: Fields) -> Operand
 }
 
 // A source of a number.
-fn source(family: Family, number: usize, f: Fields) -> Operand
+fn source(family: Family, full: bool, number: usize, f: Fields) -> Operand
     requires { ⌜ (f .size < sizes) × (f .q < 2) ⌝ }
-    ensures { λ r. ⌜ r ≡ sourceOperand family number f ⌝ }
+    ensures { λ r. ⌜ r ≡ sourceOperand family full number f ⌝ }
 {
     let size = f.size;
     match family {
@@ -184,7 +193,10 @@ fn source(family: Family, number: usize, f: Fields) -> Operand
             LowFamily::Segment => register(b'z', number, Suffix::Lane(size)),
             LowFamily::Long => register(b'v', number, Suffix::Lanes(lanes_of(f.q, size), size)),
         },
-        Family::Wide(_) => register(b'z', number, Suffix::Lane(half(size))),
+        Family::Wide(wide) => match wide {
+            WideFamily::Pairwise => register(b'z', number, Suffix::Lane(half(size))),
+            WideFamily::Widening => register(b'z', number, Suffix::Lane(widening_size(full, size))),
+        },
     }
 }
 
@@ -193,7 +205,8 @@ fn put_text(out: &mut [u8], f: Fields) -> usize
     requires { ⌜ (leastOut ≤ length (now out)) × InRange f ⌝ }
     ensures { λ r. ⌜ Put (now (out .entry)) 0 (textOf f) (now (out .exit)) r ⌝ }
 {
-    let family = words::family_of(f.row);
+    let form = words::form_of(f.row);
+    let family = form.family;
     let first = put_name(out, f.row);
     let second = put_operand(out, first, destination(family, f));
     let third = put_further(
@@ -202,12 +215,17 @@ fn put_text(out: &mut [u8], f: Fields) -> usize
         words::governing_digits(family),
         governing(family, f),
     );
-    let fourth = put_further(out, third, words::REGISTER_DIGITS, source(family, f.n, f));
+    let fourth = put_further(
+        out,
+        third,
+        words::REGISTER_DIGITS,
+        source(family, form.parameters.wide, f.n, f),
+    );
     put_further(
         out,
         fourth,
         words::second_digits(family),
-        source(family, f.m, f),
+        source(family, false, f.m, f),
     )
 }
 

@@ -128,7 +128,12 @@ fn show_misfits() {
     show_text(b"saddlb z0.h, z1.b, z1.h");
     show_text(b"saddlb z0.h, z1.h, z1.h");
     show_text(b"saddlb z0.h, z1.b");
-    show_text(b"saddwb z0.h, z1.h, z1.b");
+    show_text(b"saddwb z0.h, z1.b, z1.b");
+    show_text(b"saddwb z0.h, z1.h, z1.h");
+    show_text(b"saddwb z0.b, z1.b, z1.b");
+    show_text(b"ssublb z0.h, z1.h, z1.b");
+    show_text(b"ssubwb z0.h, z1.h");
+    show_text(b"ssubv d0, p0, z1.b");
 }
 
 // A text of 10,000 bytes: its line has the number alone.

@@ -30,18 +30,15 @@ module _ (ps : Parameters) (w e : ℕ) (f : Fields) (k : ℕ) (s : State) where
     abbrev word : Executable f k s
     word = t .lanes .word .word
 
-    -- two registers that are read hold lane e
-    pub both-hold : (i j : ℕ) (a b : List ℕ) → i < vectors → j < vectors → a ≡ vectorOf k i (s .z) → b ≡ vectorOf k j (s .z) → HalfLanes w e 0 1 a b
-    both-hold i j a b l m p q =
-        rw (t .lanes .width, p, q)
+    -- a register that is read holds lane e
+    pub holds : (i : ℕ) (a : List ℕ) → i < vectors → a ≡ vectorOf k i (s .z) → HalfLanes w e a
+    holds i a l is =
+        rw (t .lanes .width, is)
         (record {
           some = width-legal (f .size) (word .fields .size) .0;
           most = width-legal (f .size) (word .fields .size) .1;
           halves = wide-halves f k s word wide (t .lanes .word .is);
-          first = rw (vector-length f k s word i l) (lane-ends wide f k s (t .lanes .word) e (t .inside));
-          second = rw (vector-length f k s word j m) (lane-ends wide f k s (t .lanes .word) e (t .inside));
-          left = omega arith;
-          right = omega arith;
+          inside = rw (vector-length f k s word i l) (lane-ends wide f k s (t .lanes .word) e (t .inside));
         })
 
     -- the predicate governs the destination
@@ -63,5 +60,5 @@ module _ (ps : Parameters) (w e : ℕ) (f : Fields) (k : ℕ) (s : State) where
   pairwise-fed mask first old t m a b = rw (t .lanes .word .is, t .lanes .parameters, t .lanes .width, m, a, b)
 
   pub widening-fed : (first second : List ℕ) → WideTurn Widening ps w e f k s → first ≡ vectorOf k (f .n) (s .z) → second ≡ vectorOf k (f .m) (s .z)
-      → sumOf (record { operand1 = first; operand2 = second; old = [] }) (wideningTerms (ps .signed) (ps .top) w e) ≡ integerAfter f k s e
+      → sumOf (record { operand1 = first; operand2 = second; old = [] }) (wideningTerms ps w e) ≡ integerAfter f k s e
   widening-fed first second t a b = rw (t .lanes .word .is, t .lanes .parameters, t .lanes .width, a, b)

@@ -34,12 +34,12 @@ use Rattle.words.specs.declared.Family.the-variants.{Wide}
 use Rattle.words.specs.declared.WideFamily.{WideFamily}
 use Rattle.words.specs.declared.WideFamily.the-variants.{Pairwise, Widening}
 use Rattle.sums.proofs.Accepted.{width-legal}
-use Rattle.meaning.specs.Terms.{Operands, Source, Operand1, Operand2, Old, operandOf, sumOf}
+use Rattle.meaning.specs.Terms.{Operands, Source, Operand1, Operand2, Old, operandOf, elementOf, sumOf, selected, firstTerm}
 use Rattle.meaning.specs.Meaning.{wideTerms}
 use Rattle.meaning.specs.Execute.{operandsOf, maskOf, integerAfter, laneWritten, executed}
 use Rattle.meaning.specs.Needs.{ExecutableAs}
 use Rattle.widens.specs.Needs.{WideLanes, WideTurn}
-use Rattle.elements.proofs.Halves.{element-same, half-same}
+use Rattle.elements.proofs.Halves.{half-taken, element-same, half-same}
 use Rattle.meaning.proofs.Padded.{padded-full}
 use Rattle.meaning.proofs.Sizes.{whole, k-most, wide-halves, vector-in, vector-length, second-most}
 
@@ -70,13 +70,23 @@ lane-only wide ps w e mask o o′ halves at = go wide
     half source i l =
         half-same (ps .signed) w e i (operandOf o source) (operandOf o′ source) halves l (at source .inside) (at source .inside′) (at source .same)
 
-    one : (top : Bool) → cond top 1 0 ≤ 1
-    one true = omega arith
-    one false = omega arith
+    -- the half element that a form takes, and its first element, whichever that is
+    chosen : (source : Source)
+        → element (ps .signed) (w / 2) (operandOf o source) (selected (ps .top) e) ≡ element (ps .signed) (w / 2) (operandOf o′ source) (selected (ps .top) e)
+    chosen source = half source (cond (ps .top) 1 0) (half-taken (ps .top))
+
+    first : elementOf o (firstTerm ps w e) ≡ elementOf o′ (firstTerm ps w e)
+    first = by (ps .wide)
+      where
+        by : (wide : Bool)
+            → element (ps .signed) (cond wide w (w / 2)) (o .operand1) (cond wide e (selected (ps .top) e))
+            ≡ element (ps .signed) (cond wide w (w / 2)) (o′ .operand1) (cond wide e (selected (ps .top) e))
+        by true = element-same (ps .signed) w e (o .operand1) (o′ .operand1) (at Operand1 .same)
+        by false = chosen Operand1
 
     go : (wide : WideFamily) → sumOf o (wideTerms wide ps w mask e) ≡ sumOf o′ (wideTerms wide ps w mask e)
     go Pairwise = rw (element-same false w e (o .old) (o′ .old) (at Old .same), half Operand1 0 (omega arith), half Operand1 1 (omega arith))
-    go Widening = rw (half Operand1 (cond (ps .top) 1 0) (one (ps .top)), half Operand2 (cond (ps .top) 1 0) (one (ps .top)))
+    go Widening = rw (first, chosen Operand2)
 
 -- the first e lanes of a word's destination, and the vector file with them written
 abbrev lanesBelow : Fields → ℕ → State → ℕ → List ℕ

@@ -1,4 +1,4 @@
-// The families that write every lane: pairwise accumulates and widening adds.
+// The families that write every lane: pairwise accumulates, and widening sums and differences.
 use registers::Kind;
 use words::Fields;
 use words::Parameters;
@@ -47,7 +47,7 @@ fn write_pairwise(
     write_lane(k, z, f.d, w, e, number);
 }
 
-// Writes lane e of a widening add, from the registers as they stand.
+// Writes lane e of a widening word, from the registers as they stand.
 fn write_widening(
     parameters: Parameters,
     w: usize,
@@ -62,7 +62,7 @@ fn write_widening(
 {
     let first = registers::register(k, Kind::Vector, z, f.n);
     let second = registers::register(k, Kind::Vector, z, f.m);
-    let number = elements::widening_lane(first, second, w, parameters.signed, parameters.top, e);
+    let number = elements::widening_lane(first, second, w, parameters, e);
     write_lane(k, z, f.d, w, e, number);
 }
 
@@ -80,7 +80,7 @@ fn pairwise_lanes(parameters: Parameters, w: usize, f: Fields, k: usize, z: &mut
     }
 }
 
-// Writes every lane of a widening add in place, as above.
+// Writes every lane of a widening word in place, as above.
 fn widening_lanes(parameters: Parameters, w: usize, f: Fields, k: usize, z: &mut [u8], p: &[u8])
     requires { ⌜ WideLanes Widening parameters w f k (state (now z) (now p)) ⌝ }
     ensures { λ _. ⌜ now (z .exit) ≡ executed f k (state (now (z .entry)) (now (p .entry))) .z ⌝ }

@@ -2,6 +2,7 @@ pub mod Digits
 pub mod Every
 pub mod Rows
 pub mod OneRow
+pub mod Widening
 pub mod Decoding
 pub mod Parts
 pub mod Encoding

@@ -1,4 +1,4 @@
--- The eleven words: a line for each with its name, mask, value, family and parameters, and the sizes that it allows.
+-- The words: a line for each with its name, mask, value, operation and elements, its form, and the sizes that it allows.
 use Prim.Native.Nat.{ℕ, suc, _+_, _*_}
 use Prim.Native.String.{String}
 use mathlib.Core.Bool.{Bool, true, false, not, cond}
@@ -11,6 +11,8 @@ use Rattle.words.specs.Digits.{digitsAnd, wordDigits}
 use Rattle.words.specs.declared.Row.{Row}
 use Rattle.words.specs.declared.Form.{Form}
 use Rattle.words.specs.declared.Parameters.{Parameters}
+use Rattle.words.specs.declared.Operation.{Operation}
+use Rattle.words.specs.declared.Operation.the-variants.{Reduce, Segments, Across, Pairs, AddLong, SubLong, AddWide, SubWide}
 use Rattle.words.specs.declared.Family.{Family}
 use Rattle.words.specs.declared.Family.the-variants.{Low, Wide}
 use Rattle.words.specs.declared.LowFamily.{LowFamily}
@@ -24,38 +26,46 @@ nameBytes = 6
 abbrev pub spaced : List ℕ → List ℕ
 spaced name = take nameBytes (name ++ bytes " ")
 
--- a line of the table
-abbrev pub row : String → ℕ → ℕ → Family → Parameters → Row
-row name mask value family parameters = (spaced (bytes name), mask, value, family, parameters)
-
--- signed elements or not, of the bottom halves or of the top halves
-abbrev pub elements : Bool → Bool → Parameters
-elements signed top = record { signed = signed; top = top }
+-- a line of the table: name, mask, value, operation, whether its elements are signed, and whether they are the odd ones
+abbrev pub row : String → ℕ → ℕ → Operation → Bool → Bool → Row
+row name mask value operation signed top = (spaced (bytes name), mask, value, operation, signed, top)
 
 abbrev pub table : List Row
 table =
-    row "saddv" 0xFF3FE000 0x04002000 (Low Reduction) (elements true false)
-    ∷ row "uaddv" 0xFF3FE000 0x04012000 (Low Reduction) (elements false false)
-    ∷ row "addqv" 0xFF3FE000 0x04052000 (Low Segment) (elements false false)
-    ∷ row "saddlv" 0xBF3FFC00 0x0E303800 (Low Long) (elements true false)
-    ∷ row "uaddlv" 0xBF3FFC00 0x2E303800 (Low Long) (elements false false)
-    ∷ row "sadalp" 0xFF3FE000 0x4404A000 (Wide Pairwise) (elements true false)
-    ∷ row "uadalp" 0xFF3FE000 0x4405A000 (Wide Pairwise) (elements false false)
-    ∷ row "saddlb" 0xFF20FC00 0x45000000 (Wide Widening) (elements true false)
-    ∷ row "saddlt" 0xFF20FC00 0x45000400 (Wide Widening) (elements true true)
-    ∷ row "uaddlb" 0xFF20FC00 0x45000800 (Wide Widening) (elements false false)
-    ∷ row "uaddlt" 0xFF20FC00 0x45000C00 (Wide Widening) (elements false true)
+    row "saddv" 0xFF3FE000 0x04002000 Reduce true false
+    ∷ row "uaddv" 0xFF3FE000 0x04012000 Reduce false false
+    ∷ row "addqv" 0xFF3FE000 0x04052000 Segments false false
+    ∷ row "saddlv" 0xBF3FFC00 0x0E303800 Across true false
+    ∷ row "uaddlv" 0xBF3FFC00 0x2E303800 Across false false
+    ∷ row "sadalp" 0xFF3FE000 0x4404A000 Pairs true false
+    ∷ row "uadalp" 0xFF3FE000 0x4405A000 Pairs false false
+    ∷ row "saddlb" 0xFF20FC00 0x45000000 AddLong true false
+    ∷ row "saddlt" 0xFF20FC00 0x45000400 AddLong true true
+    ∷ row "uaddlb" 0xFF20FC00 0x45000800 AddLong false false
+    ∷ row "uaddlt" 0xFF20FC00 0x45000C00 AddLong false true
+    ∷ row "ssublb" 0xFF20FC00 0x45001000 SubLong true false
+    ∷ row "ssublt" 0xFF20FC00 0x45001400 SubLong true true
+    ∷ row "usublb" 0xFF20FC00 0x45001800 SubLong false false
+    ∷ row "usublt" 0xFF20FC00 0x45001C00 SubLong false true
+    ∷ row "saddwb" 0xFF20FC00 0x45004000 AddWide true false
+    ∷ row "saddwt" 0xFF20FC00 0x45004400 AddWide true true
+    ∷ row "uaddwb" 0xFF20FC00 0x45004800 AddWide false false
+    ∷ row "uaddwt" 0xFF20FC00 0x45004C00 AddWide false true
+    ∷ row "ssubwb" 0xFF20FC00 0x45005000 SubWide true false
+    ∷ row "ssubwt" 0xFF20FC00 0x45005400 SubWide true true
+    ∷ row "usubwb" 0xFF20FC00 0x45005800 SubWide false false
+    ∷ row "usubwt" 0xFF20FC00 0x45005C00 SubWide false true
     ∷ []
 
 -- the number of rows, which is also the place past the last
 abbrev pub rows : ℕ
-rows = 11
+rows = 23
 
 -- what stands past the last row
 abbrev pub noRow : Row
-noRow = row "      " 0 0 (Low Segment) (elements false false)
+noRow = row "      " 0 0 Segments false false
 
--- the row at a place, its mask, its value and its form
+-- the row at a place, its mask and its value
 unfoldable pub rowAt : ℕ → Row
 rowAt i = getD table i noRow
 
@@ -65,11 +75,46 @@ rowMask i = rowAt i .1
 abbrev pub rowValue : ℕ → ℕ
 rowValue i = rowAt i .2
 
+-- the family of an operation, whether its first source has the full width, and whether its second source is subtracted
+abbrev pub familyFor : Operation → Family
+familyFor Reduce = Low Reduction
+familyFor Segments = Low Segment
+familyFor Across = Low Long
+familyFor Pairs = Wide Pairwise
+familyFor AddLong = Wide Widening
+familyFor SubLong = Wide Widening
+familyFor AddWide = Wide Widening
+familyFor SubWide = Wide Widening
+
+abbrev pub isWide : Operation → Bool
+isWide Reduce = false
+isWide Segments = false
+isWide Across = false
+isWide Pairs = false
+isWide AddLong = false
+isWide SubLong = false
+isWide AddWide = true
+isWide SubWide = true
+
+abbrev pub subtracts : Operation → Bool
+subtracts Reduce = false
+subtracts Segments = false
+subtracts Across = false
+subtracts Pairs = false
+subtracts AddLong = false
+subtracts SubLong = true
+subtracts AddWide = false
+subtracts SubWide = true
+
+-- the form of the row at a place, and its family
+abbrev pub parametersWith : Operation → Bool → Bool → Parameters
+parametersWith operation signed top = record { signed = signed; top = top; wide = isWide operation; subtract = subtracts operation }
+
 abbrev pub formOf : ℕ → Form
-formOf i = record { family = rowAt i .3; parameters = rowAt i .4 }
+formOf i = record { family = familyFor (rowAt i .3); parameters = parametersWith (rowAt i .3) (rowAt i .4) (rowAt i .5) }
 
 abbrev pub familyOf : ℕ → Family
-familyOf i = rowAt i .3
+familyOf i = familyFor (rowAt i .3)
 
 -- word AND mask = value
 unfoldable pub matches : Row → ℕ → Bool

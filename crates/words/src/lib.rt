@@ -1,9 +1,9 @@
-// The eleven words: a table with a line for each, and what a word decodes to.
+// The words: a table with a line for each, and what a word decodes to.
 use machine::refusal;
 ghost use mathlib.Core.Path.{_≡_};
 ghost use Prim.Native.Nat.{_<_, _^_};
 ghost use Rattle.words.specs.Digits.{field, wordDigits};
-ghost use Rattle.words.specs.Table.{table, rowAt, matches, rowOf, familyOf, formOf, within, mostReduced, allowsLong, allowsLow, allows};
+ghost use Rattle.words.specs.Table.{table, rowAt, matches, rowOf, familyFor, isWide, subtracts, familyOf, formOf, within, mostReduced, allowsLong, allowsLow, allows};
 ghost use Rattle.words.specs.Field.{sizeDigits, governingDigits, secondDigits, qDigits, Counted};
 ghost use Rattle.words.specs.Decode.{decoded, numberOf, fieldsAt};
 
@@ -28,10 +28,13 @@ pub enum WideFamily {
     Widening,
 }
 
-// What else a row says: whether its elements are signed, and whether it takes the top half elements.
+// What else a row says: whether its elements are signed, whether it takes the top half elements, whether its first source's have the full
+// width, and whether its second source's are subtracted.
 pub struct Parameters {
     pub signed: bool,
     pub top: bool,
+    pub wide: bool,
+    pub subtract: bool,
 }
 
 // How a row works.
@@ -40,8 +43,28 @@ pub struct Form {
     pub parameters: Parameters,
 }
 
-// Name, with a space where it has five letters; mask and value, a word being of this row where word AND mask = value; family; parameters.
-pub struct Row(pub [u8; NAME], pub u32, pub u32, pub Family, pub Parameters);
+// What a row's words do, as the table has it: a family and, of the widening family, sums and differences, long and wide.
+pub enum Operation {
+    Reduce,
+    Segments,
+    Across,
+    Pairs,
+    AddLong,
+    SubLong,
+    AddWide,
+    SubWide,
+}
+
+// Name, with a space where it has five letters; mask and value, a word being of this row where word AND mask = value; operation; whether
+// its elements are signed; and whether they are the odd ones, which are the top halves.
+pub struct Row(
+    pub [u8; NAME],
+    pub u32,
+    pub u32,
+    pub Operation,
+    pub bool,
+    pub bool,
+);
 
 // A word's row and its fields; a field that the row does not have is 0.
 pub struct Fields {
@@ -72,8 +95,25 @@ pub const REGISTER_DIGITS: u32 = 5;
 pub const PREDICATE_DIGITS: u32 = 3;
 
 // The number of rows.
-pub const ROWS: usize = 11;
+pub const ROWS: usize = 23;
 
+const REDUCE: Operation = Operation::Reduce;
+
+const SEGMENTS: Operation = Operation::Segments;
+
+const ACROSS: Operation = Operation::Across;
+
+const PAIRS: Operation = Operation::Pairs;
+
+const ADD_LONG: Operation = Operation::AddLong;
+
+const SUB_LONG: Operation = Operation::SubLong;
+
+const ADD_WIDE: Operation = Operation::AddWide;
+
+const SUB_WIDE: Operation = Operation::SubWide;
+
+// The families of the operations.
 const REDUCTION: Family = Family::Low(LowFamily::Reduction);
 
 const SEGMENT: Family = Family::Low(LowFamily::Segment);
@@ -84,43 +124,44 @@ const PAIRWISE: Family = Family::Wide(WideFamily::Pairwise);
 
 const WIDENING: Family = Family::Wide(WideFamily::Widening);
 
-const SIGNED: Parameters = Parameters {
-    signed: true,
-    top: false,
-};
+// The elements' sign, and which of them are taken.
+const SIGNED: bool = true;
 
-const UNSIGNED: Parameters = Parameters {
-    signed: false,
-    top: false,
-};
+const UNSIGNED: bool = false;
 
-const SIGNED_TOP: Parameters = Parameters {
-    signed: true,
-    top: true,
-};
+const EVEN: bool = false;
 
-const UNSIGNED_TOP: Parameters = Parameters {
-    signed: false,
-    top: true,
-};
+const ODD: bool = true;
 
-// A line for each of the eleven.
+// A line for each word.
 const TABLE: [Row; ROWS] = [
-    Row(*b"saddv ", 0xFF3FE000, 0x04002000, REDUCTION, SIGNED),
-    Row(*b"uaddv ", 0xFF3FE000, 0x04012000, REDUCTION, UNSIGNED),
-    Row(*b"addqv ", 0xFF3FE000, 0x04052000, SEGMENT, UNSIGNED),
-    Row(*b"saddlv", 0xBF3FFC00, 0x0E303800, LONG, SIGNED),
-    Row(*b"uaddlv", 0xBF3FFC00, 0x2E303800, LONG, UNSIGNED),
-    Row(*b"sadalp", 0xFF3FE000, 0x4404A000, PAIRWISE, SIGNED),
-    Row(*b"uadalp", 0xFF3FE000, 0x4405A000, PAIRWISE, UNSIGNED),
-    Row(*b"saddlb", 0xFF20FC00, 0x45000000, WIDENING, SIGNED),
-    Row(*b"saddlt", 0xFF20FC00, 0x45000400, WIDENING, SIGNED_TOP),
-    Row(*b"uaddlb", 0xFF20FC00, 0x45000800, WIDENING, UNSIGNED),
-    Row(*b"uaddlt", 0xFF20FC00, 0x45000C00, WIDENING, UNSIGNED_TOP),
+    Row(*b"saddv ", 0xFF3FE000, 0x04002000, REDUCE, SIGNED, EVEN),
+    Row(*b"uaddv ", 0xFF3FE000, 0x04012000, REDUCE, UNSIGNED, EVEN),
+    Row(*b"addqv ", 0xFF3FE000, 0x04052000, SEGMENTS, UNSIGNED, EVEN),
+    Row(*b"saddlv", 0xBF3FFC00, 0x0E303800, ACROSS, SIGNED, EVEN),
+    Row(*b"uaddlv", 0xBF3FFC00, 0x2E303800, ACROSS, UNSIGNED, EVEN),
+    Row(*b"sadalp", 0xFF3FE000, 0x4404A000, PAIRS, SIGNED, EVEN),
+    Row(*b"uadalp", 0xFF3FE000, 0x4405A000, PAIRS, UNSIGNED, EVEN),
+    Row(*b"saddlb", 0xFF20FC00, 0x45000000, ADD_LONG, SIGNED, EVEN),
+    Row(*b"saddlt", 0xFF20FC00, 0x45000400, ADD_LONG, SIGNED, ODD),
+    Row(*b"uaddlb", 0xFF20FC00, 0x45000800, ADD_LONG, UNSIGNED, EVEN),
+    Row(*b"uaddlt", 0xFF20FC00, 0x45000C00, ADD_LONG, UNSIGNED, ODD),
+    Row(*b"ssublb", 0xFF20FC00, 0x45001000, SUB_LONG, SIGNED, EVEN),
+    Row(*b"ssublt", 0xFF20FC00, 0x45001400, SUB_LONG, SIGNED, ODD),
+    Row(*b"usublb", 0xFF20FC00, 0x45001800, SUB_LONG, UNSIGNED, EVEN),
+    Row(*b"usublt", 0xFF20FC00, 0x45001C00, SUB_LONG, UNSIGNED, ODD),
+    Row(*b"saddwb", 0xFF20FC00, 0x45004000, ADD_WIDE, SIGNED, EVEN),
+    Row(*b"saddwt", 0xFF20FC00, 0x45004400, ADD_WIDE, SIGNED, ODD),
+    Row(*b"uaddwb", 0xFF20FC00, 0x45004800, ADD_WIDE, UNSIGNED, EVEN),
+    Row(*b"uaddwt", 0xFF20FC00, 0x45004C00, ADD_WIDE, UNSIGNED, ODD),
+    Row(*b"ssubwb", 0xFF20FC00, 0x45005000, SUB_WIDE, SIGNED, EVEN),
+    Row(*b"ssubwt", 0xFF20FC00, 0x45005400, SUB_WIDE, SIGNED, ODD),
+    Row(*b"usubwb", 0xFF20FC00, 0x45005800, SUB_WIDE, UNSIGNED, EVEN),
+    Row(*b"usubwt", 0xFF20FC00, 0x45005C00, SUB_WIDE, UNSIGNED, ODD),
 ];
 
 // What stands past the last row.
-const NO_ROW: Row = Row(*b"      ", 0, 0, SEGMENT, UNSIGNED);
+const NO_ROW: Row = Row(*b"      ", 0, 0, SEGMENTS, UNSIGNED, EVEN);
 
 // The table at hand.
 fn table() -> [Row; ROWS]
@@ -141,12 +182,52 @@ pub fn row_at(i: usize) -> Row
     }
 }
 
-// The family of the row at a place.
-pub fn family_of(i: usize) -> Family
-    ensures { λ r. ⌜ r ≡ familyOf i ⌝ }
+// The family of an operation.
+fn family_for(operation: Operation) -> Family
+    ensures { λ r. ⌜ r ≡ familyFor operation ⌝ }
 {
-    let row = row_at(i);
-    row.3
+    match operation {
+        Operation::Reduce => REDUCTION,
+        Operation::Segments => SEGMENT,
+        Operation::Across => LONG,
+        Operation::Pairs => PAIRWISE,
+        Operation::AddLong => WIDENING,
+        Operation::SubLong => WIDENING,
+        Operation::AddWide => WIDENING,
+        Operation::SubWide => WIDENING,
+    }
+}
+
+// Whether an operation's first source has the full width.
+fn is_wide(operation: Operation) -> bool
+    ensures { λ r. ⌜ r ≡ isWide operation ⌝ }
+{
+    match operation {
+        Operation::Reduce => false,
+        Operation::Segments => false,
+        Operation::Across => false,
+        Operation::Pairs => false,
+        Operation::AddLong => false,
+        Operation::SubLong => false,
+        Operation::AddWide => true,
+        Operation::SubWide => true,
+    }
+}
+
+// Whether an operation subtracts its second source.
+fn subtracts(operation: Operation) -> bool
+    ensures { λ r. ⌜ r ≡ subtracts operation ⌝ }
+{
+    match operation {
+        Operation::Reduce => false,
+        Operation::Segments => false,
+        Operation::Across => false,
+        Operation::Pairs => false,
+        Operation::AddLong => false,
+        Operation::SubLong => true,
+        Operation::AddWide => false,
+        Operation::SubWide => true,
+    }
 }
 
 // The form of the row at a place.
@@ -154,9 +235,24 @@ pub fn form_of(i: usize) -> Form
     ensures { λ r. ⌜ r ≡ formOf i ⌝ }
 {
     let row = row_at(i);
-    let family = row.3;
-    let parameters = row.4;
+    let operation = row.3;
+    let family = family_for(operation);
+    let parameters = Parameters {
+        signed: row.4,
+        top: row.5,
+        wide: is_wide(operation),
+        subtract: subtracts(operation),
+    };
     Form { family, parameters }
+}
+
+// The family of the row at a place.
+pub fn family_of(i: usize) -> Family
+    ensures { λ r. ⌜ r ≡ familyOf i ⌝ }
+{
+    let row = row_at(i);
+    let operation = row.3;
+    family_for(operation)
 }
 
 // Whether a word is of a row.

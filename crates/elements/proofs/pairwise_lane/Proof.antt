@@ -18,7 +18,7 @@ use Rattle.elements.proofs.pairwise_lane.Tie as tie
 abbrev start : tie.After-shared-slice-known3 → tie.Start
 start c = c .before .before .before
 
-abbrev kept : tie.After-half-sum → tie.After-lane
+abbrev kept : tie.After-pair-sum → tie.After-lane
 kept c = c .before .before .before
 
 -- the old lane is its own 64 digits
@@ -37,7 +37,7 @@ returns-2 c =
     let half = element (a .signed) (a .w / 2) (a .n .now) in
     rw (sym (c .before .before .before .is-active .ensures) ∙ not-false _ (c .before .before .if1 .left))
     (c .wrapping-add-u64 .ensures
-    ∙ ap₂ (λ (x y : ℕ). (x + y) % 2 ^ 64) (old l) (c .before .half-sum .ensures)
+    ∙ ap₂ (λ (x y : ℕ). (x + y) % 2 ^ 64) (old l) (c .before .pair-sum .ensures)
     ∙ sym (residue-sum 64 (pos (lane (a .w) (a .e) (a .d .now))) (total (half (2 * a .e + 0) ∷ half (2 * a .e + 1) ∷ []))))
 
 pub pairwise-lane-spec : {M : Type 1} → statement M

@@ -12,10 +12,10 @@ use Rattle.names.proofs.put_text.Statement.{statement}
 use Rattle.names.proofs.put_text.Tie as tie
 
 -- the places: the start, the family, and where the name, the destination, the governing predicate and the source are written
-abbrev start : tie.After-family-of → tie.Start
+abbrev start : tie.After-form-of → tie.Start
 start c = c .before .before
 
-abbrev family : tie.After-put-name → tie.After-family-of
+abbrev family : tie.After-put-name → tie.After-form-of
 family c = c .before .before
 
 abbrev name : tie.After-put-operand-arg → tie.After-put-name
@@ -42,7 +42,7 @@ put-operand-requires c κs =
     let at = name (c .before) in
     let fam = family at in
     room-rest (operandText (c .destination .result)) (at .put-name .ensures)
-    (room-one (start fam .args .f) _ (fam .family-of .ensures) _ (c .destination .ensures) (start fam .pre .1) _ (start fam .pre .0))
+    (room-one (start fam .args .f) _ (fam .form-of .ensures) _ (c .destination .ensures) (start fam .pre .1) _ (start fam .pre .0))
 
 put-further-requires : tie.Need-put-further-requires
 put-further-requires c κs =
@@ -51,7 +51,7 @@ put-further-requires c κs =
     let fam = family (name (dest .before)) in
     room-rest (further (digits .governing-digits .result) (c .governing .result))
     (put-then (name (dest .before) .put-name .ensures) (first (digits .before) .put-operand .ensures))
-    (room-two (start fam .args .f) _ (fam .family-of .ensures) _ (dest .destination .ensures) (start fam .pre .1) _ (start fam .pre .0)
+    (room-two (start fam .args .f) _ (fam .form-of .ensures) _ (dest .destination .ensures) (start fam .pre .1) _ (start fam .pre .0)
     _ _ (digits .governing-digits .ensures .is) (c .governing .ensures))
 
 source-requires : tie.Need-source-requires
@@ -65,7 +65,7 @@ put-further-requires-2 c κs =
     let fam = family (name (dest .before)) in
     room-rest (further 5 (c .source .result))
     (put-then (put-then (name (dest .before) .put-name .ensures) (first (digits .before) .put-operand .ensures)) (second (c .before) .put-further .ensures))
-    (room-three (start fam .args .f) _ (fam .family-of .ensures) _ (dest .destination .ensures) (start fam .pre .1) _ (start fam .pre .0)
+    (room-three (start fam .args .f) _ (fam .form-of .ensures) _ (dest .destination .ensures) (start fam .pre .1) _ (start fam .pre .0)
     _ _ _ (digits .governing-digits .ensures .is) (gov .governing .ensures) (c .source .ensures))
 
 source-requires-2 : tie.Need-source-requires-2
@@ -83,7 +83,7 @@ put-further-requires-3 c κs =
     (put-then
     (put-then (put-then (name (dest .before) .put-name .ensures) (first (digits .before) .put-operand .ensures)) (second (src .before) .put-further .ensures))
     (third (last .before) .put-further2 .ensures))
-    (room-four (start fam .args .f) _ (fam .family-of .ensures) _ (dest .destination .ensures) (start fam .pre .1) _ (start fam .pre .0)
+    (room-four (start fam .args .f) _ (fam .form-of .ensures) _ (dest .destination .ensures) (start fam .pre .1) _ (start fam .pre .0)
     _ _ _ _ _ (digits .governing-digits .ensures .is) (gov .governing .ensures) (src .source .ensures) (last .second-digits .ensures .is) (c .source2 .ensures))
 
 same-length : tie.Need-same-length
@@ -109,7 +109,7 @@ returns c =
     let digits = gov .before in
     let dest = first (digits .before) .before in
     let fam = family (name (dest .before)) in
-    rw (text-written (start fam .args .f) _ (fam .family-of .ensures) _ (dest .destination .ensures)
+    rw (text-written (start fam .args .f) _ (fam .form-of .ensures) _ (dest .destination .ensures)
     _ _ _ _ _ (digits .governing-digits .ensures .is) (gov .governing .ensures) (src .source .ensures) (last .second-digits .ensures .is) (end .before .source2 .ensures))
     (put-then
     (put-then

@@ -4,9 +4,12 @@ use borrow.Author.Needs.{needs}
 use Rattle.names.proofs.source.Statement.{statement}
 use Rattle.names.proofs.source.Tie as tie
 
--- where the family is known to be a low one
+-- where the family is known to be a low one, and where a wide one
 abbrev low : tie.After-known-told → tie.After-family
 low c = c .before
+
+abbrev wide : tie.After-known-told2 → tie.After-family2
+wide c = c .before
 
 returns : tie.Need-returns
 returns c = rw (low (c .before .before .before) .family .given .1, c .before .enum-told .given .1) (c .register .ensures)
@@ -18,7 +21,12 @@ returns-3 : tie.Need-returns-3
 returns-3 c = let l = c .before in rw (low (l .before .before .before) .family .given .1, l .before .enum-told3 .given .1, ← l .lanes-of .ensures) (c .register3 .ensures)
 
 returns-4 : tie.Need-returns-4
-returns-4 c = rw (c .before .before .enum-told4 .given .1, ← c .before .half .ensures) (c .register4 .ensures)
+returns-4 c = let l = c .before in rw (wide (l .before .before .before) .family2 .given .1, l .before .enum-told4 .given .1, ← l .half .ensures) (c .register4 .ensures)
+
+returns-5 : tie.Need-returns-5
+returns-5 c =
+    let l = c .before in
+    rw (wide (l .before .before .before) .family2 .given .1, l .before .enum-told5 .given .1, ← l .widening-size .ensures) (c .register5 .ensures)
 
 pub source-spec : {M : Type 1} → statement M
 source-spec =
@@ -33,9 +41,14 @@ source-spec =
     (λ c κs. search needs)
     (λ c κs. search needs)
     (λ c. search needs)
+    (λ c. search needs)
+    (λ c κs. search needs)
+    (λ c κs. search needs)
+    (λ c. search needs)
     (λ c κs. search needs)
     (λ c κs. search needs)
     returns
     returns-2
     returns-3
-    returns-4)
+    returns-4
+    returns-5)

@@ -7,7 +7,7 @@ use native.Mathlib.Omega.{arith}
 use Rattle.lanes.specs.Integer.{residue}
 use Rattle.words.specs.declared.WideFamily.the-variants.{Pairwise}
 use Rattle.meaning.proofs.Sizes.{governing-in, vector-in}
-use Rattle.widens.proofs.Fed.{both-hold, governed, placed, written, pairwise-fed}
+use Rattle.widens.proofs.Fed.{holds, governed, placed, written, pairwise-fed}
 use Rattle.widens.proofs.write_pairwise.Statement.{statement}
 use Rattle.widens.proofs.write_pairwise.Tie as tie
 
@@ -31,7 +31,8 @@ pairwise-lane-requires : tie.Need-pairwise-lane-requires
 pairwise-lane-requires c κs =
     let h = begin (mask c) .pre in
     let x = h .lanes .word .word in (
-      both-hold _ _ _ _ _ _ Pairwise h _ _ _ _ (x .fields .n) (x .fields .d) (c .before .register2 .ensures) (c .register3 .ensures),
+      holds _ _ _ _ _ _ Pairwise h _ _ (x .fields .n) (c .before .register2 .ensures),
+      holds _ _ _ _ _ _ Pairwise h _ _ (x .fields .d) (c .register3 .ensures),
       governed _ _ _ _ _ _ Pairwise h _ _ (mask c .register .ensures) (c .register3 .ensures),
     )
 

@@ -6,7 +6,7 @@ use native.Mathlib.Omega.{arith}
 use Rattle.lanes.specs.Integer.{residue}
 use Rattle.words.specs.declared.WideFamily.the-variants.{Widening}
 use Rattle.meaning.proofs.Sizes.{vector-in, second-most}
-use Rattle.widens.proofs.Fed.{both-hold, placed, written, widening-fed}
+use Rattle.widens.proofs.Fed.{holds, placed, written, widening-fed}
 use Rattle.widens.proofs.write_widening.Statement.{statement}
 use Rattle.widens.proofs.write_widening.Tie as tie
 
@@ -27,7 +27,7 @@ widening-lane-requires : tie.Need-widening-lane-requires
 widening-lane-requires c κs =
     let h = begin (c .before) .pre in
     let x = h .lanes .word .word in
-    both-hold _ _ _ _ _ _ Widening h _ _ _ _ (x .fields .n) (second-most _ _ _ x) (c .before .register .ensures) (c .register2 .ensures)
+    (holds _ _ _ _ _ _ Widening h _ _ (x .fields .n) (c .before .register .ensures), holds _ _ _ _ _ _ Widening h _ _ (second-most _ _ _ x) (c .register2 .ensures))
 
 write-lane-requires : tie.Need-write-lane-requires
 write-lane-requires c κs = placed _ _ _ _ _ _ Widening (begin (c .before .before .before) .pre)

@@ -1,4 +1,4 @@
--- `family_of` meets its contract: the family is a part of the row.
+-- `family_of` meets its contract: the family is that of the row's operation.
 -- Assumes nothing.
 use borrow.Author.Needs.{needs}
 use Rattle.words.proofs.family_of.Statement.{statement}
@@ -8,4 +8,4 @@ returns : tie.Need-returns
 returns c = cc
 
 pub family-of-spec : {M : Type 1} → statement M
-family-of-spec = tie.close (tie.spec (λ c κs. search needs) returns)
+family-of-spec = tie.close (tie.spec (λ c κs. search needs) (λ c κs. search needs) returns)

@@ -1,4 +1,4 @@
--- `form_of` meets its contract: the form is the last two parts of the row.
+-- `form_of` meets its contract: the form is that of the row's operation and elements.
 -- Assumes nothing.
 use borrow.Author.Needs.{needs}
 use Rattle.words.proofs.form_of.Statement.{statement}
@@ -8,4 +8,4 @@ returns : tie.Need-returns
 returns c = cc
 
 pub form-of-spec : {M : Type 1} → statement M
-form-of-spec = tie.close (tie.spec (λ c κs. search needs) returns)
+form-of-spec = tie.close (tie.spec (λ c κs. search needs) (λ c κs. search needs) (λ c κs. search needs) (λ c κs. search needs) returns)
