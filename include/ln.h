@@ -1,5 +1,5 @@
 /* The engine of a vector-code viewer, for C and C++: decode, name, assemble, execute and un-execute
- * eleven of Arm's A64 adding instructions. Link with libln.a (x86-64 Linux).
+ * twenty-three of Arm's A64 adding and subtracting instructions. Link with libln.a (x86-64 Linux).
  *
  * Calls. No value has to be checked before a call: every call ends for every k, number, length and
  * content of the lent bytes, with LN_DONE or with a refusal. A refusal gives zero in place of every
@@ -59,7 +59,7 @@ extern "C" {
 #endif
 
 /* The version of this header and its library. It grows with every change that a program can notice. */
-#define LN_VERSION 2
+#define LN_VERSION 3
 
 /* The versions of the stored forms. */
 #define LN_JOURNAL_VERSION 1
@@ -84,7 +84,12 @@ enum ln_number {
     LN_SESSION = 14   /* not a session */
 };
 
-/* The rows of the table of words, in its order; s is signed, u unsigned. Later versions may have more. */
+/* The rows of the table of words, in its order; s is signed, u unsigned. Later versions may have more.
+ *
+ * From LN_SADDLB on a word has no predicate and sizes 1 to 3, and each lane e of Z<d> is two numbers
+ * added (add) or the first less the second (sub), modulo 2^width. The second is a half-width lane of
+ * Z<m>, extended: lane 2e (b, bottom) or 2e + 1 (t, top). The first is in a long row (l) the half-width
+ * lane of Z<n> with that number, extended, and in a wide row (w) lane e of Z<n> at the full width. */
 enum ln_row {
     LN_SADDV = 0,  /* the sum of the active lanes, 64 bits; sizes 0 to 2 */
     LN_UADDV = 1,  /* the same; sizes 0 to 3 */
@@ -93,10 +98,22 @@ enum ln_row {
     LN_UADDLV = 4,
     LN_SADALP = 5, /* each active lane e of Z<d> gains the half-width lanes 2e and 2e + 1 of Z<n>; 1 to 3 */
     LN_UADALP = 6,
-    LN_SADDLB = 7, /* lane e is the sum of the half-width lanes 2e of Z<n> and Z<m>; 1 to 3 */
+    LN_SADDLB = 7, /* long sum: half-width lanes 2e of Z<n> and Z<m> */
     LN_SADDLT = 8, /* the same of lanes 2e + 1 */
     LN_UADDLB = 9,
-    LN_UADDLT = 10
+    LN_UADDLT = 10,
+    LN_SSUBLB = 11, /* long difference: half-width lanes 2e of Z<n> less those of Z<m> */
+    LN_SSUBLT = 12, /* the same of lanes 2e + 1 */
+    LN_USUBLB = 13,
+    LN_USUBLT = 14,
+    LN_SADDWB = 15, /* wide sum: lanes e of Z<n> and half-width lanes 2e of Z<m> */
+    LN_SADDWT = 16, /* the same with lanes 2e + 1 */
+    LN_UADDWB = 17,
+    LN_UADDWT = 18,
+    LN_SSUBWB = 19, /* wide difference: lanes e of Z<n> less half-width lanes 2e of Z<m> */
+    LN_SSUBWT = 20, /* the same with lanes 2e + 1 */
+    LN_USUBWB = 21,
+    LN_USUBWT = 22
 };
 
 /* Sizes of the machine. */
@@ -234,7 +251,8 @@ struct ln_answer ln_text(uint32_t word, uint8_t *out, size_t out_len);
  *     addqv vD.A, pG, zN.T         A = 16b, 8h, 4s, 2d
  *     saddlv RD, vN.A              uaddlv alike; A = 8b, 16b, 4h, 8h, 4s
  *     sadalp zD.T, pG/m, zN.H      uadalp alike
- *     saddlb zD.T, zN.H, zM.H      saddlt, uaddlb, uaddlt alike
+ *     saddlb zD.T, zN.H, zM.H      the other long rows alike
+ *     saddwb zD.T, zN.T, zM.H      the other wide rows alike
  *
  * LN_TEXT: no accepted word has it. */
 struct ln_answer ln_assemble(const uint8_t *text, size_t text_len);

@@ -39,29 +39,40 @@ def step(parts, vectors, predicates, after, kind):
     governed = active(predicates[parts.g], width) if form in (words.REDUCTION, words.SEGMENT, words.PAIRWISE) else None
     if form == words.PAIRWISE:
         pairs = [on for on in governed for _ in (0, 1)]
-        out += source(vectors, parts.n, width // 2, ("active", pairs), kind)
+        out += source(vectors, parts.n, width // 2, {"active": pairs}, kind)
         return out + destination(parts.d, width, vectors[parts.d], after, kind, governed)
     if governed is not None:
-        out += source(vectors, parts.n, width, ("active", governed), kind)
+        out += source(vectors, parts.n, width, {"active": governed}, kind)
         return out + destination(parts.d, 8 if form == words.REDUCTION else width, vectors[parts.d], after, kind)
     if form == words.LONG:
         lanes = [place < (8 << parts.q) // width for place in range(len(after) // width)]
-        out += source(vectors, parts.n, width, ("added", lanes), kind)
+        out += source(vectors, parts.n, width, {"added": lanes}, kind)
         return out + destination(parts.d, 2 * width, vectors[parts.d], after, kind)
-    half = width // 2
-    top = int(parts.row.name.endswith("t"))
-    lanes = [place % 2 == top for place in range(len(after) // half)]
-    for number in dict.fromkeys((parts.n, parts.m)):
-        out += source(vectors, number, half, ("added", lanes), kind)
+    for (number, lane), marks in widened(parts, len(after)).items():
+        out += source(vectors, number, lane, marks, kind)
     return out + destination(parts.d, width, vectors[parts.d], after, kind)
 
 
+def widened(parts, size):
+    """The sources of a widening word, by their numbers and the bytes of their lanes, and which lanes of their `size` bytes count for what: they
+    are added, or in a difference the first source's are plus and the second's minus. A register that is both at one width is one source."""
+    width, half = 1 << parts.size, (1 << parts.size) // 2
+    halves = [place % 2 == parts.row.name.endswith("t") for place in range(size // half)]
+    first = (width, [True] * (size // width)) if parts.row.form == words.WIDE else (half, halves)
+    signs = ("plus", "minus") if parts.row.name[1:4] == "sub" else ("added", "added")
+    found = {}
+    for number, (lane, counting), sign in zip((parts.n, parts.m), (first, (half, halves)), signs):
+        found.setdefault((number, lane), {})[sign] = counting
+    return found
+
+
 def source(vectors, number, width, marks, kind):
-    """A source's lanes and which of them count."""
-    lanes, (word, counting) = lanes_of(vectors[number], width), marks
-    rows = [("value", [text(lane, width, kind) for lane in lanes]), (word, ["01"[on] for on in counting])]
-    drop = [not lane and not on for lane, on in zip(lanes, counting)]
-    return table(number, width, rows, drop, "0, not " + word)
+    """A source's lanes and which of them count, by what they count for."""
+    lanes = lanes_of(vectors[number], width)
+    rows = [("value", [text(lane, width, kind) for lane in lanes])]
+    rows += [(word, ["01"[on] for on in counting]) for word, counting in marks.items()]
+    drop = [not lane and not any(on) for lane, on in zip(lanes, zip(*marks.values()))]
+    return table(number, width, rows, drop, "0, not " + " or ".join(marks))
 
 
 def destination(number, width, before, after, kind, governed=None):

@@ -210,7 +210,7 @@ def word_of(line):
 
 
 def disassembled(found):
-    """The word of a disassembler's line; where its text is one of the eleven instructions, it must be that word's."""
+    """The word of a disassembler's line; where its text is one of the twenty-three instructions, it must be that word's."""
     number, memory, text = found.groups()
     word = int(number, 16) if number else int.from_bytes(bytes.fromhex(memory), "little")
     if text and text.split(" ")[0] in words.NAMES and words.assembled(text) != word:

@@ -1,4 +1,4 @@
-"""The eleven words, as numbers, as fields and as text.
+"""The twenty-three words, as numbers, as fields and as text.
 
 The table is the paper's. This is for making and reading sessions at a terminal; the proved assembler is the library's, and
 tests/terminal holds this one to the proved engine's texts over every accepted word."""
@@ -10,13 +10,15 @@ from .saying import Bad, echo
 LETTERS = "bhsdq"  # a lane's letter by its size: 8, 16, 32, 64 and 128 bits
 
 # A form's mask, and its operands: d, n, m and g are register numbers, T and H the letters of the width and of half of it, R that of
-# twice the width, A the arrangement of a V register.
-Form = namedtuple("Form", "mask operands")
+# twice the width, A the arrangement of a V register. A rule says which widths go together where that is easily mistaken.
+Form = namedtuple("Form", "mask operands rule", defaults=("",))
 REDUCTION = Form(0xFF3FE000, "d{d}, p{g}, z{n}.{T}")
 SEGMENT = Form(0xFF3FE000, "v{d}.{A}, p{g}, z{n}.{T}")
 LONG = Form(0xBF3FFC00, "{R}{d}, v{n}.{A}")
 PAIRWISE = Form(0xFF3FE000, "z{d}.{T}, p{g}/m, z{n}.{H}")
-WIDENING = Form(0xFF20FC00, "z{d}.{T}, z{n}.{H}, z{m}.{H}")
+# a sum or a difference of two lanes of half the width, and of one of the full width and one of half
+WIDENING = Form(0xFF20FC00, "z{d}.{T}, z{n}.{H}, z{m}.{H}", "zN and zM have half the width of zD")
+WIDE = Form(0xFF20FC00, "z{d}.{T}, z{n}.{T}, z{m}.{H}", "zN has the width of zD, and zM half of it")
 
 Row = namedtuple("Row", "name value form sizes")
 ROWS = [
@@ -31,6 +33,18 @@ ROWS = [
     Row("saddlt", 0x45000400, WIDENING, (1, 2, 3)),
     Row("uaddlb", 0x45000800, WIDENING, (1, 2, 3)),
     Row("uaddlt", 0x45000C00, WIDENING, (1, 2, 3)),
+    Row("ssublb", 0x45001000, WIDENING, (1, 2, 3)),
+    Row("ssublt", 0x45001400, WIDENING, (1, 2, 3)),
+    Row("usublb", 0x45001800, WIDENING, (1, 2, 3)),
+    Row("usublt", 0x45001C00, WIDENING, (1, 2, 3)),
+    Row("saddwb", 0x45004000, WIDE, (1, 2, 3)),
+    Row("saddwt", 0x45004400, WIDE, (1, 2, 3)),
+    Row("uaddwb", 0x45004800, WIDE, (1, 2, 3)),
+    Row("uaddwt", 0x45004C00, WIDE, (1, 2, 3)),
+    Row("ssubwb", 0x45005000, WIDE, (1, 2, 3)),
+    Row("ssubwt", 0x45005400, WIDE, (1, 2, 3)),
+    Row("usubwb", 0x45005800, WIDE, (1, 2, 3)),
+    Row("usubwt", 0x45005C00, WIDE, (1, 2, 3)),
 ]
 NAMES = [row.name for row in ROWS]
 
@@ -41,6 +55,8 @@ FIELDS = {"d": (0, 31), "n": (5, 31), "g": (10, 7), "m": (16, 31)}
 Word = namedtuple("Word", "row size q d n g m")
 
 REGISTER = re.compile(r"\b([bhsdqpvz])([0-9]+)")
+REGISTER_NUMBER = re.compile(r"(?<=\b[bhsdqpvz])[0-9]+")
+SPARE_SPACE = re.compile(r" (?=[,/.])|(?<=[,/.]) ")
 
 
 def variants(row):
@@ -110,13 +126,13 @@ def accepted_forms(name):
 def exact(text):
     """The text in the paper's spacing and case."""
     name, _, operands = " ".join(text.lower().split()).partition(" ")
-    return name + " " + re.sub(r" ?([,/.]) ?", r"\1", operands).replace(",", ", ")
+    return name + " " + SPARE_SPACE.sub("", operands).replace(",", ", ")
 
 
 def assembled(text):
     """The word that a line of assembler stands for. Spacing and case are free."""
     text = exact(text)
-    shape = REGISTER.sub(r"\1#", text)
+    shape = REGISTER_NUMBER.sub("#", text)
     if shape not in SHAPES:
         raise Bad(why_not(text))
     word, fields = SHAPES[shape]
@@ -136,7 +152,9 @@ def why_not(text):
     """The reason why a text has no word, with what would have one."""
     name = text.split(" ")[0]
     if name in NAMES:
-        return "%s is none of the forms of %s: %s" % (echo(text.strip()), name, "; ".join(accepted_forms(name)))
+        rule = ROWS[NAMES.index(name)].form.rule
+        forms = name + (" (%s)" % rule if rule else "")
+        return "%s is none of the forms of %s: %s" % (echo(text.strip()), forms, "; ".join(accepted_forms(name)))
     for known in NAMES:
         if re.match(known + r"[bhsdvz][0-9]", text):
             return "a space is missing after %s: write %s" % (known, echo(known + " " + text[len(known):].strip()))
@@ -159,4 +177,4 @@ def reads(parts):
         return [("z", parts.n, width)]
     if form == PAIRWISE:
         return [("z", parts.n, width // 2), ("p", parts.g, width), ("z", parts.d, width)]
-    return [("z", parts.n, width // 2), ("z", parts.m, width // 2)]
+    return [("z", parts.n, width if form == WIDE else width // 2), ("z", parts.m, width // 2)]

@@ -48,15 +48,16 @@ pub fn execute(fields: &Fields, k: usize, z: &mut [u8], p: &[u8]) {
                 set_lane(&mut result, width, e, value);
             }
         }
-        Form::Long { signed, top } => {
+        Form::Widening { signed, top, wide, subtract } => {
             for e in 0..lanes {
-                let sum = extended(source, half, 2 * e + top, signed).wrapping_add(extended(
-                    second,
-                    half,
-                    2 * e + top,
-                    signed,
-                ));
-                set_lane(&mut result, width, e, sum);
+                let narrow = |bytes: &[u8]| extended(bytes, half, 2 * e + top, signed);
+                let first = if wide { lane(source, width, e) } else { narrow(source) };
+                let value = if subtract {
+                    first.wrapping_sub(narrow(second))
+                } else {
+                    first.wrapping_add(narrow(second))
+                };
+                set_lane(&mut result, width, e, value);
             }
         }
     }

@@ -14,4 +14,4 @@ pub use journal::{back, fresh, position, step};
 pub use names::{assemble, text};
 pub use pane::{panel, read_word, register_place, subtotal};
 pub use session::{line, read_session, walk, write_line};
-pub use words::decode;
+pub use words::{decode, Row, TABLE};

@@ -30,9 +30,10 @@ pub fn text(word: u32, out: &mut [u8]) -> Result<usize, Refusal> {
         Form::Pairs { .. } => {
             write!(rest, "{} z{}.{}, p{}/m, z{}.{}", name, d, letter, g, n, LETTERS[size - 1])
         }
-        Form::Long { .. } => {
+        Form::Widening { wide, .. } => {
             let half = LETTERS[size - 1];
-            write!(rest, "{} z{}.{}, z{}.{}, z{}.{}", name, d, letter, n, half, m, half)
+            let first = if wide { letter } else { half };
+            write!(rest, "{} z{}.{}, z{}.{}, z{}.{}", name, d, letter, n, first, m, half)
         }
     };
     written.expect("a text has at most 26 bytes");
@@ -89,11 +90,11 @@ fn parse(text: &str) -> Option<u32> {
             }
             (size, 0, g << 10 | n << 5 | d)
         }
-        Form::Long { .. } => {
+        Form::Widening { wide, .. } => {
             let (d, size) = lanes(next()?)?;
-            let (n, half) = lanes(next()?)?;
-            let (m, other) = lanes(next()?)?;
-            if half + 1 != size || other != half {
+            let (n, first) = lanes(next()?)?;
+            let (m, half) = lanes(next()?)?;
+            if half + 1 != size || first != if wide { size } else { half } {
                 return None;
             }
             (size, 0, m << 16 | n << 5 | d)

@@ -1,4 +1,4 @@
-//! The eleven words.
+//! The twenty-three words.
 
 use ghishmadul::{Fields, Refusal};
 
@@ -13,22 +13,38 @@ pub enum Form {
     LongAcross { signed: bool },
     /// sadalp, uadalp
     Pairs { signed: bool },
-    /// saddlb, saddlt, uaddlb, uaddlt
-    Long { signed: bool, top: usize },
+    /// saddlb to usubwt: a lane is the sum of two numbers, or with `subtract` the first less the second.
+    /// For lane e the second is the half-width lane 2e + `top` of the second source; the first is that
+    /// lane of the first source, or with `wide` its lane e.
+    Widening { signed: bool, top: usize, wide: bool, subtract: bool },
 }
 
+/// What stands in the table for a name: a word is of the row if its bits of the mask are the value.
+#[derive(Clone, Copy)]
 pub struct Row {
     pub name: &'static str,
-    mask: u32,
-    value: u32,
-    pub form: Form,
+    pub mask: u32,
+    pub value: u32,
+    pub(crate) form: Form,
 }
 
 const fn row(name: &'static str, mask: u32, value: u32, form: Form) -> Row {
     Row { name, mask, value, form }
 }
 
-pub const TABLE: [Row; 11] = [
+/// A row of the widening family: s or u, add or sub, l or w, b or t.
+const fn widening(name: &'static str, value: u32) -> Row {
+    let letters = name.as_bytes();
+    let form = Form::Widening {
+        signed: letters[0] == b's',
+        subtract: letters[1] == b's',
+        wide: letters[4] == b'w',
+        top: (letters[5] == b't') as usize,
+    };
+    row(name, 0xFF20_FC00, value, form)
+}
+
+pub const TABLE: [Row; 23] = [
     row("saddv", 0xFF3F_E000, 0x0400_2000, Form::Across { signed: true }),
     row("uaddv", 0xFF3F_E000, 0x0401_2000, Form::Across { signed: false }),
     row("addqv", 0xFF3F_E000, 0x0405_2000, Form::Segments),
@@ -36,28 +52,40 @@ pub const TABLE: [Row; 11] = [
     row("uaddlv", 0xBF3F_FC00, 0x2E30_3800, Form::LongAcross { signed: false }),
     row("sadalp", 0xFF3F_E000, 0x4404_A000, Form::Pairs { signed: true }),
     row("uadalp", 0xFF3F_E000, 0x4405_A000, Form::Pairs { signed: false }),
-    row("saddlb", 0xFF20_FC00, 0x4500_0000, Form::Long { signed: true, top: 0 }),
-    row("saddlt", 0xFF20_FC00, 0x4500_0400, Form::Long { signed: true, top: 1 }),
-    row("uaddlb", 0xFF20_FC00, 0x4500_0800, Form::Long { signed: false, top: 0 }),
-    row("uaddlt", 0xFF20_FC00, 0x4500_0C00, Form::Long { signed: false, top: 1 }),
+    widening("saddlb", 0x4500_0000),
+    widening("saddlt", 0x4500_0400),
+    widening("uaddlb", 0x4500_0800),
+    widening("uaddlt", 0x4500_0C00),
+    widening("ssublb", 0x4500_1000),
+    widening("ssublt", 0x4500_1400),
+    widening("usublb", 0x4500_1800),
+    widening("usublt", 0x4500_1C00),
+    widening("saddwb", 0x4500_4000),
+    widening("saddwt", 0x4500_4400),
+    widening("uaddwb", 0x4500_4800),
+    widening("uaddwt", 0x4500_4C00),
+    widening("ssubwb", 0x4500_5000),
+    widening("ssubwt", 0x4500_5400),
+    widening("usubwb", 0x4500_5800),
+    widening("usubwt", 0x4500_5C00),
 ];
 
 impl Row {
-    fn matches(&self, word: u32) -> bool {
+    pub fn matches(&self, word: u32) -> bool {
         word & self.mask == self.value
     }
 
-    pub fn allows(&self, size: usize, q: usize) -> bool {
+    pub(crate) fn allows(&self, size: usize, q: usize) -> bool {
         match self.form {
             Form::Across { signed: true } => size <= 2,
             Form::Across { signed: false } | Form::Segments => size <= 3,
             Form::LongAcross { .. } => size <= 1 || (size == 2 && q == 1),
-            Form::Pairs { .. } | Form::Long { .. } => (1..=3).contains(&size),
+            Form::Pairs { .. } | Form::Widening { .. } => (1..=3).contains(&size),
         }
     }
 
     /// The word of this row whose fields are these.
-    pub fn word(&self, fields: u32) -> u32 {
+    pub(crate) fn word(&self, fields: u32) -> u32 {
         self.value | fields
     }
 }
@@ -72,7 +100,7 @@ pub fn decode(word: u32) -> Result<Fields, Refusal> {
     // A field that the row does not have is 0.
     let (g, m, q) = match TABLE[row].form {
         Form::LongAcross { .. } => (0, 0, q),
-        Form::Long { .. } => (0, field(16, 5), 0),
+        Form::Widening { .. } => (0, field(16, 5), 0),
         _ => (field(10, 3), 0, 0),
     };
     Ok(Fields { row, size, n: field(5, 5), d: field(0, 5), g, m, q })

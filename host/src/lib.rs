@@ -1,5 +1,5 @@
 //! Safe Rust over the proved engine of a vector-code viewer: it decodes, names, assembles, executes
-//! and un-executes eleven of Arm's A64 adding instructions.
+//! and un-executes twenty-three of Arm's A64 adding and subtracting instructions.
 //!
 //! A [`Machine`] owns the registers, a program and the journal that steps back need; most programs
 //! want that. The functions beside it are the engine's calls over slices of the caller's.
@@ -78,7 +78,7 @@ pub const fn journal_bytes(k: usize, entries: usize) -> usize {
 /// The row and the fields of a word.
 #[derive(Clone, Copy, Debug, PartialEq, Eq)]
 pub struct Fields {
-    /// The row of the table of words, 0 (saddv) to 10 (uaddlt).
+    /// The row of the table of words, 0 (saddv) to 22 (usubwt); `include/ln.h` says what each does.
     pub row: usize,
     /// Bits 23:22; the width is `8 << size` bits.
     pub size: usize,

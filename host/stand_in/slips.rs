@@ -1,7 +1,18 @@
 //! The reference with the slip of `slips.txt` that the variable SLIP names; none if none is named.
 
 use ghishmadul::{Fields, Lanes, Refusal};
+use reference::TABLE;
 use std::ops::Range;
+
+/// What the bits of a widening word say.
+const TOP: u32 = 1 << 10;
+const UNSIGNED: u32 = 1 << 11;
+const SUBTRACT: u32 = 1 << 12;
+const WIDE: u32 = 1 << 14;
+
+/// The first row of the widening words, and the last.
+const SADDLB: usize = 7;
+const USUBWT: usize = 22;
 
 thread_local! {
     static SLIP: String = std::env::var("SLIP").unwrap_or_default();
@@ -17,6 +28,10 @@ pub fn text(word: u32, out: &mut [u8]) -> Result<usize, Refusal> {
     if slips("a byte past the text written") {
         out[length] = 0;
     }
+    if slips("the half letter of zn in a wide text") && out[4] == b'w' {
+        reference::text(word ^ WIDE, out)?;
+        out[4] = b'w';
+    }
     Ok(length)
 }
 
@@ -28,7 +43,19 @@ pub fn assemble(text: &[u8]) -> Result<u32, Refusal> {
         let text = String::from_utf8_lossy(text).replacen("  ", " ", 1);
         return reference::assemble(text.as_bytes());
     }
+    if slips("the full letter of zn accepted in a long text") {
+        return reference::assemble(text).or_else(|refusal| assemble_as_wide(text).ok_or(refusal));
+    }
     reference::assemble(text)
+}
+
+/// The long word of a text that a wide word would have.
+fn assemble_as_wide(text: &[u8]) -> Option<u32> {
+    if text.get(4) != Some(&b'l') {
+        return None;
+    }
+    let wide = [&text[..4], b"w", &text[5..]].concat();
+    reference::assemble(&wide).ok().map(|word| word ^ WIDE)
 }
 
 pub fn subtotal(
@@ -122,6 +149,8 @@ fn slip(k: usize, z: &mut [u8], p: &[u8], mut before: Vec<u8>, fields: Fields) {
     let governing = fields.g * 2 * k;
     let bit = |at: usize| p[governing + at / 8] >> (at % 8) & 1;
     let pairs = fields.row == 5 || fields.row == 6;
+    let word = word_of(&fields);
+    let has = |bits: u32| fields.row >= SADDLB && word & bits != 0;
 
     // The predicate file with another bit in each lane's place.
     let moved = |from: fn(usize, usize) -> usize| {
@@ -132,26 +161,41 @@ fn slip(k: usize, z: &mut [u8], p: &[u8], mut before: Vec<u8>, fields: Fields) {
         }
         moved
     };
-    let again = |before: &mut Vec<u8>, p: &[u8]| {
-        let word = word_of(&fields).to_le_bytes();
+    // What this word leaves of the bytes before.
+    let mut again = |word: u32, p: &[u8], before: &mut Vec<u8>| {
         let mut journal = vec![0; 8 + 1 + bytes];
         reference::fresh(k, &mut journal).expect("a legal length");
-        reference::step(k, before, p, &word, &mut journal).expect("an accepted word");
+        reference::step(k, before, p, &word.to_le_bytes(), &mut journal).expect("an accepted word");
+        z.copy_from_slice(before);
     };
     let name = SLIP.with(String::clone);
     match name.as_str() {
-        "bit e for lane e at every width" => {
-            again(&mut before, &moved(|e, _| e));
-            z.copy_from_slice(&before);
-        }
+        "bit e for lane e at every width" => again(word, &moved(|e, _| e), &mut before),
         "sadalp activity at half the width" if pairs => {
-            again(&mut before, &moved(|e, width| e * width / 2));
-            z.copy_from_slice(&before);
+            again(word, &moved(|e, width| e * width / 2), &mut before)
         }
         "destination cleared before the sources are read" => {
             before[destination].fill(0);
-            again(&mut before, p);
-            z.copy_from_slice(&before);
+            again(word, p, &mut before);
+        }
+        "a sum for a difference" if has(SUBTRACT) => again(word ^ SUBTRACT, p, &mut before),
+        "a sum for usubwt .d alone" if fields.row == USUBWT && fields.size == 3 => {
+            again(word ^ SUBTRACT, p, &mut before)
+        }
+        "bits 10 and 11 exchanged" if has(SUBTRACT | WIDE) && has(TOP) != has(UNSIGNED) => {
+            again(word ^ TOP ^ UNSIGNED, p, &mut before)
+        }
+        "a half lane of zn in a wide form" if has(WIDE) => again(word ^ WIDE, p, &mut before),
+        "usubl extends by the sign" if has(SUBTRACT) && has(UNSIGNED) && !has(WIDE) => {
+            again(word ^ UNSIGNED, p, &mut before)
+        }
+        "the top half for the bottom one" if has(SUBTRACT | WIDE) && !has(TOP) => {
+            again(word ^ TOP, p, &mut before)
+        }
+        "operands of a difference exchanged" if has(SUBTRACT) => {
+            for lane in z[destination].chunks_exact_mut(width) {
+                negate(lane);
+            }
         }
         "high bytes left after a V write" if fields.row < 5 => {
             let high = destination.start + 16..destination.end;
@@ -166,26 +210,16 @@ fn slip(k: usize, z: &mut [u8], p: &[u8], mut before: Vec<u8>, fields: Fields) {
     }
 }
 
-/// A word with these fields.
-fn word_of(fields: &Fields) -> u32 {
-    const VALUES: [u32; 11] = [
-        0x0400_2000,
-        0x0401_2000,
-        0x0405_2000,
-        0x0E30_3800,
-        0x2E30_3800,
-        0x4404_A000,
-        0x4405_A000,
-        0x4500_0000,
-        0x4500_0400,
-        0x4500_0800,
-        0x4500_0C00,
-    ];
-    let mut word = VALUES[fields.row] | (fields.size << 22 | fields.n << 5 | fields.d) as u32;
-    match fields.row {
-        3 | 4 => word |= (fields.q << 30) as u32,
-        7..=10 => word |= (fields.m << 16) as u32,
-        _ => word |= (fields.g << 10) as u32,
+/// A lane's number, modulo 2^width, with the other sign.
+fn negate(lane: &mut [u8]) {
+    let mut carry = true;
+    for byte in lane {
+        (*byte, carry) = (!*byte).overflowing_add(carry.into());
     }
-    word
+}
+
+/// A word with these fields; one that its row does not have is 0.
+fn word_of(fields: &Fields) -> u32 {
+    let Fields { row, size, n, d, g, m, q } = *fields;
+    TABLE[row].value | (q << 30 | size << 22 | m << 16 | g << 10 | n << 5 | d) as u32
 }

@@ -1,5 +1,5 @@
-/* The numbers and names of include/ln.h, a line each, then the line of a step with the greatest answer
- * number; the crate has the same. */
+/* The numbers and names of include/ln.h, a line each, then the rows of the table of words, then the line
+ * of a step with the greatest answer number; the crate and its reference have the same. */
 #include "ln.h"
 
 #include <stdio.h>
@@ -18,6 +18,34 @@ static void say_line(void)
                                             sizeof program, 0, UINT64_MAX);
 
     fwrite(line, 1, (size_t)answer.value, stdout);
+}
+
+/* The rows of the table of words. */
+static void say_rows(void)
+{
+    say("SADDV", LN_SADDV);
+    say("UADDV", LN_UADDV);
+    say("ADDQV", LN_ADDQV);
+    say("SADDLV", LN_SADDLV);
+    say("UADDLV", LN_UADDLV);
+    say("SADALP", LN_SADALP);
+    say("UADALP", LN_UADALP);
+    say("SADDLB", LN_SADDLB);
+    say("SADDLT", LN_SADDLT);
+    say("UADDLB", LN_UADDLB);
+    say("UADDLT", LN_UADDLT);
+    say("SSUBLB", LN_SSUBLB);
+    say("SSUBLT", LN_SSUBLT);
+    say("USUBLB", LN_USUBLB);
+    say("USUBLT", LN_USUBLT);
+    say("SADDWB", LN_SADDWB);
+    say("SADDWT", LN_SADDWT);
+    say("UADDWB", LN_UADDWB);
+    say("UADDWT", LN_UADDWT);
+    say("SSUBWB", LN_SSUBWB);
+    say("SSUBWT", LN_SSUBWT);
+    say("USUBWB", LN_USUBWB);
+    say("USUBWT", LN_USUBWT);
 }
 
 int main(void)
@@ -42,6 +70,7 @@ int main(void)
     for (number = LN_LENGTH; number <= LN_SESSION + 1; number++) {
         say(ln_refusal_name(number), (size_t)number);
     }
+    say_rows();
     say_line();
     return 0;
 }

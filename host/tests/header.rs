@@ -1,4 +1,5 @@
-//! The crate's numbers and names are the header's, and so is a line: `header.c` prints the same.
+//! The crate's numbers and names are the header's, so are the reference's rows, and so is a line: `header.c`
+//! prints the same.
 
 use ghishmadul::*;
 
@@ -25,7 +26,10 @@ fn the_header_has_the_same_numbers() {
     let after_the_last = Refusal::ALL.len() as u64 + 1;
     let refusals = Refusal::ALL.iter().copied().chain([Refusal::Unlisted(after_the_last)]);
     let names = refusals.map(|refusal| format!("{} {}\n", refusal.name(), refusal.number()));
-    let lines: String = sizes.chain(names).chain([line_of_the_greatest_number()]).collect();
+    let rows = reference::TABLE.iter().zip(0..);
+    let rows = rows.map(|(row, number)| format!("{} {}\n", row.name.to_uppercase(), number));
+    let line = [line_of_the_greatest_number()];
+    let lines: String = sizes.chain(names).chain(rows).chain(line).collect();
     assert_eq!(lines, include_str!("header.expected"));
 }
 

@@ -10,9 +10,9 @@ use ghishmadul::{
 };
 use random::Random;
 
-/// Words of every row, and one that is undefined now and then.
+/// Words of every family, and one that is undefined now and then.
 fn words(random: &mut Random) -> Vec<u32> {
-    const TEXTS: [&str; 7] = [
+    const TEXTS: [&str; 10] = [
         "saddv d3, p1, z2.h",
         "uaddv d2, p0, z3.d",
         "addqv v1.4s, p2, z1.s",
@@ -20,6 +20,9 @@ fn words(random: &mut Random) -> Vec<u32> {
         "uadalp z3.h, p1/m, z3.b",
         "saddlb z2.d, z3.s, z2.s",
         "uaddlt z1.s, z1.h, z3.h",
+        "ssublt z3.h, z1.b, z3.b",
+        "saddwb z2.s, z2.s, z1.h",
+        "usubwt z1.d, z3.d, z1.s",
     ];
     let many = random.below(40);
     (0..many)

@@ -1,4 +1,5 @@
-//! The paper's marked cases M1 to M12, by the engine and by the reference.
+//! The paper's marked cases M1 to M12, and some of the differences and wide sums, by the engine and by
+//! the reference.
 
 use ghishmadul::Refusal;
 
@@ -163,6 +164,31 @@ const CASES: [Case; 14] = [
     },
 ];
 
+/// A case of a widening word; the patterns are those of a lane.
+const fn lanes(
+    name: &'static str,
+    text: &'static str,
+    old: &'static [u8],
+    source: &'static [u8],
+    new: &'static [u8],
+) -> Case {
+    Case { name, k: 3, text, old, source, predicate: &[0], new: Again(new) }
+}
+
+#[rustfmt::skip]
+const DIFFERENCES_AND_WIDE_SUMS: [Case; 10] = [
+    lanes("-128 less 127", "ssublb z0.h, z0.b, z1.b", &[0x80, 0x11], &[0x7F, 0x22], &[0x01, 0xFF]),
+    lanes("1 less 2", "usublb z0.h, z0.b, z1.b", &[0x01, 0x11], &[0x02, 0x22], &[0xFF, 0xFF]),
+    lanes("255 less 128", "usublt z0.h, z1.b, z0.b", &[0x11, 0x80], &[0x22, 0xFF], &[0x7F, 0x00]),
+    lanes("-1 less -127", "ssublt z0.h, z1.b, z0.b", &[0x11, 0x81], &[0x22, 0xFF], &[0x7E, 0x00]),
+    lanes("32767 and 1", "saddwb z0.h, z0.h, z1.b", &[0xFF, 0x7F], &[0x01, 0x22], &[0x00, 0x80]),
+    lanes("-32768 and -1", "saddwb z0.h, z0.h, z1.b", &[0x00, 0x80], &[0xFF, 0x22], &[0xFF, 0x7F]),
+    lanes("FF80 and 128", "uaddwt z0.h, z1.h, z0.b", &[0x33, 0x80], &[0x80, 0xFF], &[0x00, 0x00]),
+    lanes("-32768 less 1", "ssubwt z0.h, z1.h, z0.b", &[0x33, 0x01], &[0x00, 0x80], &[0xFF, 0x7F]),
+    lanes("255 less -1", "ssubwb z0.h, z0.h, z0.b", &[0xFF, 0x00], NOISE, &[0x00, 0x01]),
+    lanes("0 less 1", "usubwb z0.d, z0.d, z1.s", &[0x00], &[1, 0, 0, 0, 9, 9, 9, 9], &[0xFF]),
+];
+
 fn fill(part: &mut [u8], pattern: &[u8]) {
     for (byte, &value) in part.iter_mut().zip(pattern.iter().cycle()) {
         *byte = value;
@@ -193,12 +219,21 @@ fn run(side: &str, case: &Case, assemble: Assemble, step: Step) {
     assert!(z == after, "{} {}", side, case.name);
 }
 
-#[test]
-fn m1_to_m11() {
-    for case in &CASES {
+fn run_all(cases: &[Case]) {
+    for case in cases {
         run("engine", case, |text| ghishmadul::assemble(text), ghishmadul::step);
         run("reference", case, reference::assemble, reference::step);
     }
+}
+
+#[test]
+fn m1_to_m11() {
+    run_all(&CASES);
+}
+
+#[test]
+fn differences_and_wide_sums() {
+    run_all(&DIFFERENCES_AND_WIDE_SUMS);
 }
 
 #[test]

@@ -7,29 +7,40 @@ mod inputs;
 #[path = "compare/random.rs"]
 #[allow(dead_code)]
 mod random;
+#[path = "compare/reached.rs"]
+#[allow(dead_code)]
+mod reached;
 #[path = "../benches/bench/split.rs"]
 mod split;
 #[path = "../benches/bench/typed.rs"]
 mod typed;
 
-use ghishmadul::Lanes;
+use ghishmadul::{Lanes, Refusal};
 use random::Random;
+use reached::Reached;
 
 #[test]
 fn the_step_for_speed_agrees() {
     let mut random = Random::new(1);
     let (mut z, mut p, mut program, mut journal) = (vec![], vec![], vec![], vec![]);
+    let mut reached = Reached::default();
     for _ in 0..100_000 {
         let k = inputs::length(&mut random);
         inputs::files(&mut random, k, &mut z, &mut p);
         inputs::program(&mut random, &mut program);
         inputs::journal(&mut random, k, program.len() / 4, &mut journal);
+        let position = reference::position(k, &journal);
+        let next = position.and_then(|position| reference::read_word(&program, position));
         let (mut other_z, mut other_journal) = (z.clone(), journal.clone());
         let answer = typed::step(k, &mut z, &p, &program, &mut journal);
         let other = reference::step(k, &mut other_z, &p, &program, &mut other_journal);
         assert_eq!(answer, other);
         assert!(z == other_z && journal == other_journal, "k {}, {:02x?}", k, &journal[..8]);
+        if let (Ok(next), Ok(()) | Err(Refusal::Undefined)) = (next, other) {
+            reached.count(next.word);
+        }
     }
+    assert!(reached.missing().is_empty(), "not reached: {}", reached.missing().join(", "));
 }
 
 #[test]

@@ -10,7 +10,7 @@ REFUSED = {"paper": "8 UNDEFINED", "refused": "7 UNKNOWN"}
 
 def check():
     names = sorted(name[:-4] for name in os.listdir(place("examples")) if name.endswith(".txt"))
-    expect(set(names) >= {"paper", "strain-gauges", "columns", "accumulate", "refused"}, "examples are missing:", names)
+    expect(set(names) >= {"paper", "strain-gauges", "columns", "accumulate", "differential", "refused"}, "examples are missing:", names)
     for name in names:
         text, status = place("examples", name + ".txt"), 3 if name in REFUSED else 0
         run(text).expect(status, REFUSED.get(name, ""), out=read("examples", name + ".expected"))

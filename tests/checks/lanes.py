@@ -3,12 +3,13 @@ what a destination held before is what the session or an earlier step gave."""
 import random
 import re
 
-from sessions import drawing, layout, words
+from sessions import drawing, layout, readable, words
 
 from .common import expect, walk
 from .round_trip import any_session, any_word
 
 BYTES = {"b": 1, "h": 2, "s": 4, "d": 8}
+MARKS = ("active", "added", "plus", "minus")  # what a source's lanes are marked as
 ELIDED = re.compile(r"  z(\d+)\.([bhsd]) +lanes (\d+) to (\d+): (.*)\Z")
 
 
@@ -25,6 +26,7 @@ def check():
         for (_, tables), word, line in zip(steps, session.words, lines.split("\n")):
             checked(tables, words.decoded(word)[1], state, bytes.fromhex(line.rsplit(" ", 1)[1])[::-1])
     kinds()
+    as_drawn()
 
 
 def split(shown):
@@ -36,7 +38,7 @@ def split(shown):
             steps.append((line, []))
         elif elided:
             into = table(steps[-1][1], elided[1], elided[2], "before" if "before" in elided[5] else "value")
-            rows = ("before", "after", "active") if "before" in elided[5] else ("value", "active", "added")
+            rows = ("before", "after", "active") if "before" in elided[5] else ("value",) + MARKS
             for lane in range(int(elided[3]), int(elided[4]) + 1):
                 for row in rows:
                     into[row].setdefault(lane, "0")
@@ -58,7 +60,7 @@ def table(tables, number, letter, kind):
     for key, rows in tables:
         if key == (int(number), letter, kind):
             return rows
-    tables.append(((int(number), letter, kind), {"value": {}, "active": {}, "added": {}, "before": {}, "after": {}}))
+    tables.append(((int(number), letter, kind), {name: {} for name in ("value", "before", "after") + MARKS}))
     return tables[-1][1]
 
 
@@ -83,20 +85,37 @@ def checked(tables, parts, state, after):
 
 def added_up(name, sources, parts, before, rows, count):
     """The destination's lanes, from what is drawn of the sources alone."""
-    drawn = {key[0]: (row(cells, "value"), row(cells, "active" if cells["active"] and parts.row.form in GOVERNED else "added")) for key, cells in sources}
-    values, marks = drawn[parts.n]
-    counted = [value * mark for value, mark in zip(values, marks)]
+    if parts.row.form in (words.WIDENING, words.WIDE):
+        return widened(sources, parts, count)
+    [(_, cells)] = sources
+    marks = row(cells, "active" if cells["active"] and parts.row.form in GOVERNED else "added")
+    counted = [value * mark for value, mark in zip(row(cells, "value"), marks)]
     if name in ("saddv", "uaddv", "saddlv", "uaddlv"):
         return [sum(counted)] + [0] * (count - 1)
     if name == "addqv":
         places = 16 >> parts.size
         return [sum(counted[place::places]) for place in range(places)] + [0] * (count - places)
-    if name in ("sadalp", "uadalp"):
-        expect([on for on in row(rows, "active") for _ in (0, 1)] == marks, "the destination's active lanes are not the pairs'")
-        return [old + counted[2 * lane] + counted[2 * lane + 1] for lane, old in enumerate(before)]
-    values, marks = drawn[parts.m]
-    other = [value * mark for value, mark in zip(values, marks)]
-    return [sum(counted[2 * lane:2 * lane + 2]) + sum(other[2 * lane:2 * lane + 2]) for lane in range(count)]
+    expect([on for on in row(rows, "active") for _ in (0, 1)] == marks, "the destination's active lanes are not the pairs'")
+    return [old + counted[2 * lane] + counted[2 * lane + 1] for lane, old in enumerate(before)]
+
+
+def widened(sources, parts, count):
+    """A widening word's lanes: what is marked added or plus of its first source, with what is added or minus of its second."""
+    half, wide = words.letter((1 << parts.size) // 2), parts.row.name[4] == "w"
+    marks, sign = (("plus", "minus"), -1) if parts.row.name[1:4] == "sub" else (("added", "added"), 1)
+    drawn = {(number, letter): cells for (number, letter, _), cells in sources}
+
+    def counted(number, letter, mark):
+        cells = drawn.get((number, letter), {"value": {}, mark: {}})
+        expect(cells["value"] and len(cells["value"]) == len(cells[mark]), "no lanes are marked", mark, "in", "z%d.%s" % (number, letter))
+        lanes = [value * on for value, on in zip(row(cells, "value"), row(cells, mark))]
+        each = len(lanes) // count
+        return [sum(lanes[place:place + each]) for place in range(0, len(lanes), each)]
+
+    first = counted(parts.n, words.letter(1 << parts.size) if wide else half, marks[0])
+    second = counted(parts.m, half, marks[1])
+    expect(len(drawn) == len({(parts.n, wide), (parts.m, False)}), "a source is drawn that the word has not")
+    return [one + sign * other for one, other in zip(first, second)]
 
 
 GOVERNED = (words.REDUCTION, words.SEGMENT, words.PAIRWISE)
@@ -112,3 +131,53 @@ def kinds():
         expect(drawing.text(255, 1, kind) == lane, "255 as", kind)
     for kind, lane in (("signed", "127"), ("unsigned", "127"), ("hex", "007f")):
         expect(drawing.text(127, 2, kind) == lane, "127 as", kind)
+
+
+# a wide difference, a wide sum of a register with itself, and a long difference of one with itself
+TEXT = b"""k 1
+z1.h 1000 -2 3 4
+z2.b 5 -6 7 8
+program
+ssubwt z0.h, z1.h, z2.b
+uaddwb z2.h, z2.h, z2.b
+usublb z3.h, z1.b, z1.b
+"""
+LINES = b"""0 0 ssubwt z0.h, z1.h, z2.b 000000000000000000040003fff603ee
+1 0 uaddwb z2.h, z2.h, z2.b 000000000000000000000000080efa0a
+2 0 usublb z3.h, z1.b, z1.b 00000000000000000000000000000000
+"""
+DRAWN = """\
+0 0 ssubwt z0.h, z1.h, z2.b
+  z1.h   lane      0    1    2    3    4    5    6    7
+         value  1000   -2    3    4    0    0    0    0
+         plus      1    1    1    1    1    1    1    1
+  z2.b   lane    0  1  2  3  4  5  6  7  8  9 10 11 12 13 14 15
+         value   5 -6  7  8  0  0  0  0  0  0  0  0  0  0  0  0
+         minus   0  1  0  1  0  1  0  1  0  1  0  1  0  1  0  1
+  z0.h   lane      0    1    2    3    4    5    6    7
+         before    0    0    0    0    0    0    0    0
+         after  1006  -10    3    4    0    0    0    0
+1 0 uaddwb z2.h, z2.h, z2.b
+  z2.h   lane       0     1     2     3     4     5     6     7
+         value  64005  2055     0     0     0     0     0     0
+         added      1     1     1     1     1     1     1     1
+  z2.b   lane     0   1   2   3   4   5   6   7   8   9  10  11  12  13  14  15
+         value    5 250   7   8   0   0   0   0   0   0   0   0   0   0   0   0
+         added    1   0   1   0   1   0   1   0   1   0   1   0   1   0   1   0
+  z2.h   lane       0     1     2     3     4     5     6     7
+         before 64005  2055     0     0     0     0     0     0
+         after  64010  2062     0     0     0     0     0     0
+2 0 usublb z3.h, z1.b, z1.b
+  z1.b   lane     0   1   2   3   4   5   6   7   8   9  10  11  12  13  14  15
+         value  232   3 254 255   3   0   4   0   0   0   0   0   0   0   0   0
+         plus     1   0   1   0   1   0   1   0   1   0   1   0   1   0   1   0
+         minus    1   0   1   0   1   0   1   0   1   0   1   0   1   0   1   0
+  z3.h   lanes 0 to 7: 0 before and after
+"""
+
+
+def as_drawn():
+    """How wide sums and differences are drawn, line by line; walk prints the lines that are drawn from."""
+    session = readable.session_of(TEXT)
+    expect(walk(layout.packed(session)) == LINES.decode(), "walk prints other lines for differences and wide sums")
+    expect(drawing.drawn(session, LINES, "own") == DRAWN, "differences and wide sums are drawn otherwise:", drawing.drawn(session, LINES, "own"))

@@ -23,6 +23,7 @@ SAME = [
     (PROGRAM + "SADDV D0,P0,Z1.B\n", PROGRAM + "saddv d0, p0, z1.b\n"),
     (PROGRAM + "  saddv\td0 ,p0,  z1 . b \n", PROGRAM + "saddv d0, p0, z1.b\n"),
     (PROGRAM + "sadalp z3.h,p1 / m,z1.b\n", PROGRAM + "sadalp z3.h, p1/m, z1.b\n"),
+    (PROGRAM + "SSUBLB Z0.H,Z1.B , Z2.B\nusubwt\tz3.d,z3.d,z4.s\n", PROGRAM + ".inst 0x45421020\n.inst 0x45c45c63\n"),
     (PROGRAM + ".inst 0x04002020\n", PROGRAM + "saddv d0, p0, z1.b\n"),
     (PROGRAM + ".inst 0x4002020\n.word 04C02020\n", PROGRAM + ".word 0x04002020\n.inst 04c02020\n"),
     # a disassembler's lines: GNU's, LLVM's with the word, LLVM's with the bytes in memory
@@ -30,6 +31,8 @@ SAME = [
     (PROGRAM + "       0: 04002020     \tsaddv\td0, p0, z1.b\n", PROGRAM + "saddv d0, p0, z1.b\n"),
     (PROGRAM + "       0: 20 20 00 04  \tsaddv\td0, p0, z1.b\n", PROGRAM + "saddv d0, p0, z1.b\n"),
     (PROGRAM + "   0:\tsaddv\td0, p0, z1.b\n", PROGRAM + "saddv d0, p0, z1.b\n"),
+    (PROGRAM + "   4:\t45834441 \tsaddwt\tz1.s, z2.s, z3.h\n   8: 41 50 c3 45\tssubwb\tz1.d, z2.d, z3.s\n",
+     PROGRAM + "saddwt z1.s, z2.s, z3.h\nssubwb z1.d, z2.d, z3.s\n"),
     (PROGRAM + "      14: 20 20 05 04  \t<unknown>\n  18: d65f03c0\tret\n", PROGRAM + "addqv v0.16b, p0, z1.b\n.inst 0xd65f03c0\n"),
     (PROGRAM + "a.o:\tfile format elf64-littleaarch64\n\nDisassembly of section .text:\n\n0000000000000000 <kernel>:\n  0: 04002020\n",
      PROGRAM + "saddv d0, p0, z1.b\n"),
@@ -99,6 +102,16 @@ REFUSED = [
     (PROGRAM + "program", 3, "the registers stand before it"),
     (PROGRAM + "saddv d0, p0, z1.d", 3, "saddv dD, pG, zN.b; saddv dD, pG, zN.h; saddv dD, pG, zN.s"),
     (PROGRAM + "saddlb z0.b, z1.b, z1.b", 3, "saddlb zD.h, zN.b, zM.b"),
+    (PROGRAM + "ssublb z0.h, z1.h, z1.b", 3, "ssublb (zN and zM have half the width of zD): ssublb zD.h, zN.b, zM.b; ssublb zD.s, zN.h, zM.h"),
+    (PROGRAM + "saddwb z0.h, z1.b, z1.b", 3, "saddwb (zN has the width of zD, and zM half of it): saddwb zD.h, zN.h, zM.b"),
+    (PROGRAM + "usubwt z0.h, z1.h, z1.h", 3, "usubwt (zN has the width of zD, and zM half of it): usubwt zD.h, zN.h, zM.b"),
+    (PROGRAM + "saddwb z0.b, z1.b, z1.b", 3, "saddwb zD.h, zN.h, zM.b; saddwb zD.s, zN.s, zM.h; saddwb zD.d, zN.d, zM.s"),
+    (PROGRAM + "ssubwb z0.h, z1.h", 3, "ssubwb zD.h, zN.h, zM.b"),
+    (PROGRAM + "ssublbz0.h, z1.b, z2.b", 3, "write 'ssublb z0.h, z1.b, z2.b'"),
+    (PROGRAM + "usublb z0.h, z1.b, z32.b", 3, "0 to 31"),
+    (PROGRAM + "ssubv d0, p0, z1.b", 3, "'ssubv d0, p0, z1.b' is no instruction here"),
+    (PROGRAM + "0: 45421020 saddlb z0.h, z1.b, z2.b", 3, "reads 'ssublb z0.h, z1.b, z2.b'"),
+    (PROGRAM + "0: 45021020 ssublb z0.h, z1.b, z2.b", 3, "is not accepted"),
     (PROGRAM + "uaddlv d0, v1.2s", 3, "uaddlv dD, vN.4s"),
     (PROGRAM + "sadalp z0.h, p0/z, z1.b", 3, "sadalp zD.h, pG/m, zN.b"),
     (PROGRAM + "saddvd0, p0, z1.b", 3, "write 'saddv d0, p0, z1.b'"),
@@ -160,7 +173,7 @@ def refused(text, line, reason):
 
 
 PIECES = ["k", "k 1", "k 16", "z1", "z1.h", "z31.d", "p0", "p0.h", "p15.b", "all", "none", "program", "saddv", "d0", "p0,", "z1.b", ",", "/m", ".inst", ".word",
-          "0x04002020", "04c02020", "0:", "20 20 00 04", "saddv d0, p0, z1.b", "sadalp z3.h, p1/m, z1.b", "uaddlv h2, v1.8b", "-1", "0x", "-", "#", "#1", "//", ";",
+          "0x04002020", "04c02020", "0:", "20 20 00 04", "saddv d0, p0, z1.b", "sadalp z3.h, p1/m, z1.b", "uaddlv h2, v1.8b", "ssublb z0.h, z1.b, z2.b", "saddwb", "-1", "0x", "-", "#", "#1", "//", ";",
           "\n", "\n", "\n", " ", "\t", "\r", "\0", "\x1b", "\u00b2", "\u0663", "\ufeff", "9" * 50, "<a>:", "...", "(", "\\", "%s", "{d}", "z1.", "p.", "."]
 
 

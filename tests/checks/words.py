@@ -1,9 +1,10 @@
 """The words of bin/ against the proved engine.
 
-`accepted` lists every accepted word with its text, written anew from the paper's table. For each of the 542,720: walk, the proved program,
+`accepted` lists every accepted word with its text, written anew from the paper's table. For each of the 1,722,368: walk, the proved program,
 steps it and prints this text; bin/ assembles the text to the word, and names the word by the text. Words that are refused, for each row
 and size with the fields at their ends: bin/ and walk give the same number. So bin/'s assembler is held to the proved engine's answers
-over all accepted words; that it accepts no other text is held by `sound`, over texts with a change at any place."""
+over all accepted words; that it accepts no other text is held by `sound`, over texts with a change at any place, and by `three_registers`,
+over every choice of letters."""
 import random
 import struct
 from itertools import product
@@ -12,7 +13,15 @@ from sessions import saying, words
 
 from .common import expect, walk
 
-WORDS, UNDEFINED = 542720, 161792
+WORDS, UNDEFINED = 1722368, 555008
+
+
+def widening():
+    """The widening words, from the first of each four: bit 11 makes the first letter u, bit 10 the last t."""
+    for name, value in (("saddlb", 0x45000000), ("ssublb", 0x45001000), ("saddwb", 0x45004000), ("ssubwb", 0x45005000)):
+        for u, t in product((0, 1), repeat=2):
+            yield "su"[u] + name[1:-1] + "bt"[t], 0xFF20FC00, value | u << 11 | t << 10, (1, 2, 3)
+
 
 # name, mask, value, sizes allowed: the paper's table
 TABLE = [
@@ -23,10 +32,7 @@ TABLE = [
     ("uaddlv", 0xBF3FFC00, 0x2E303800, (0, 1, 2)),
     ("sadalp", 0xFF3FE000, 0x4404A000, (1, 2, 3)),
     ("uadalp", 0xFF3FE000, 0x4405A000, (1, 2, 3)),
-    ("saddlb", 0xFF20FC00, 0x45000000, (1, 2, 3)),
-    ("saddlt", 0xFF20FC00, 0x45000400, (1, 2, 3)),
-    ("uaddlb", 0xFF20FC00, 0x45000800, (1, 2, 3)),
-    ("uaddlt", 0xFF20FC00, 0x45000C00, (1, 2, 3)),
+    *widening(),
 ]
 T = "bhsd"
 
@@ -42,7 +48,8 @@ def text(name, word):
         return "%s %s%d, v%d.%s" % (name, "hsd"[size], d, n, (("8b", "4h", None), ("16b", "8h", "4s"))[q][size])
     if name in ("sadalp", "uadalp"):
         return "%s z%d.%s, p%d/m, z%d.%s" % (name, d, T[size], g, n, T[size - 1])
-    return "%s z%d.%s, z%d.%s, z%d.%s" % (name, d, T[size], n, T[size - 1], m, T[size - 1])
+    first = T[size] if name[4] == "w" else T[size - 1]
+    return "%s z%d.%s, z%d.%s, z%d.%s" % (name, d, T[size], n, first, m, T[size - 1])
 
 
 def matching(mask, value):
@@ -97,6 +104,7 @@ def check():
     expect((accepted, undefined) == (WORDS, UNDEFINED), "accepted and undefined words are counted as", str((accepted, undefined)))
     refused()
     sound(some)
+    three_registers()
 
 
 def refused():
@@ -122,7 +130,7 @@ def refused():
 def sound(some):
     """A text that is assembled is, in the paper's spacing and case, the text of its word."""
     dice = random.Random(2)
-    letters = "abdghlmpqstuvz0123456789 ,./"
+    letters = "abdghlmpqstuvwz0123456789 ,./"
     for _, reads in some:
         for _ in range(12):
             at, kind = dice.randrange(len(reads)), dice.randrange(3)
@@ -133,3 +141,16 @@ def sound(some):
                 expect(words.exact(changed) != reads, changed, "is refused")
                 continue
             expect(words.named(word) == words.exact(changed), changed, "is assembled to", hex(word))
+
+
+def three_registers():
+    """Of the texts with three vector registers, those are accepted whose letters fit: H is half of T, and zN has T in a wide form alone."""
+    for name, _, value, _ in TABLE:
+        for d, n, m in product("bhsdq", repeat=3):
+            reads = "%s z31.%s, z0.%s, z7.%s" % (name, d, n, m)
+            fits = value >> 24 == 0x45 and d + m in ("hb", "sh", "ds") and n == (d if name[4] == "w" else m)
+            try:
+                words.assembled(reads)
+                expect(fits, reads, "is assembled")
+            except saying.Bad:
+                expect(not fits, reads, "is refused")

@@ -14,17 +14,15 @@ mod typed;
 
 use ghishmadul::{Kind, Lanes, Refusal};
 use random::Random;
+use reference::{Row, TABLE};
 use std::ops::Range;
 use std::time::Duration;
 
 const JOURNAL: usize = 65_536;
-const NAMES: [&str; 11] = [
-    "saddv", "uaddv", "addqv", "saddlv", "uaddlv", "sadalp", "uadalp", "saddlb", "saddlt",
-    "uaddlb", "uaddlt",
-];
 
-/// One word of each family and width: its name here, and the word, its registers being 0.
-const WORDS: [(&str, u32); 17] = [
+/// Words of each family and width: the name here, and the word, its registers being 0. Of the widening
+/// family there are sums and differences, long and wide, of both signs and both halves.
+const WORDS: [(&str, u32); 26] = [
     ("saddv .b", 0x0400_2000),
     ("saddv .h", 0x0440_2000),
     ("saddv .s", 0x0480_2000),
@@ -42,6 +40,15 @@ const WORDS: [(&str, u32); 17] = [
     ("saddlb .h", 0x4540_0000),
     ("saddlb .s", 0x4580_0000),
     ("saddlb .d", 0x45C0_0000),
+    ("ssublb .h", 0x4540_1000),
+    ("ssublb .s", 0x4580_1000),
+    ("ssublb .d", 0x45C0_1000),
+    ("saddwb .h", 0x4540_4000),
+    ("saddwb .s", 0x4580_4000),
+    ("saddwb .d", 0x45C0_4000),
+    ("usubwt .h", 0x4540_5C00),
+    ("usubwt .s", 0x4580_5C00),
+    ("usubwt .d", 0x45C0_5C00),
 ];
 
 /// A side with a step.
@@ -288,27 +295,14 @@ fn text_of(word: u32) -> Vec<u8> {
 /// So many accepted words, every row and size by turns.
 fn words(many: usize) -> Vec<u32> {
     let mut random = Random::new(1);
-    (0..many).map(|at| word_of(at % NAMES.len(), &mut random)).collect()
+    (0..many).map(|at| word_of(&TABLE[at % TABLE.len()], &mut random)).collect()
 }
 
 /// An accepted word of a row.
-fn word_of(row: usize, random: &mut Random) -> u32 {
-    const VALUES: [u32; 11] = [
-        0x0400_2000,
-        0x0401_2000,
-        0x0405_2000,
-        0x0E30_3800,
-        0x2E30_3800,
-        0x4404_A000,
-        0x4405_A000,
-        0x4500_0000,
-        0x4500_0400,
-        0x4500_0800,
-        0x4500_0C00,
-    ];
+fn word_of(row: &Row, random: &mut Random) -> u32 {
     loop {
-        let word = VALUES[row] | random.word() & 0x40DF_1FFF;
-        if matches!(reference::decode(word), Ok(fields) if fields.row == row) {
+        let word = row.value | random.word() & !row.mask;
+        if reference::decode(word).is_ok() {
             return word;
         }
     }
@@ -316,15 +310,11 @@ fn word_of(row: usize, random: &mut Random) -> u32 {
 
 /// The same word with other registers: Z0 the destination, the sources and the predicate by turns.
 fn with_registers(word: u32) -> Vec<u32> {
-    let fields = reference::decode(word).expect("an accepted word");
+    let row = TABLE[reference::decode(word).expect("an accepted word").row];
     (0..64)
         .map(|turn| {
             let (n, m, g) = (1 + turn % 31, 1 + (turn + 7) % 31, turn % 8);
-            match NAMES[fields.row] {
-                "saddlv" | "uaddlv" => word | n << 5,
-                "saddlb" | "saddlt" | "uaddlb" | "uaddlt" => word | m << 16 | n << 5,
-                _ => word | g << 10 | n << 5,
-            }
+            word | (m << 16 | g << 10 | n << 5) & !row.mask
         })
         .collect()
 }
@@ -438,7 +428,7 @@ fn time_calls(timer: &Timer) {
         );
         slowest.see(engine / plain, format!("{} k {} {}", name, k, journal));
     };
-    let any = words(16 * NAMES.len());
+    let any = words(16 * TABLE.len());
     let step: [Turn; 2] = [State::step::<Engine>, State::step::<Plain>];
     let back: [Turn; 2] = [State::back::<Engine>, State::back::<Plain>];
     for k in [1, 4, 16] {
@@ -455,10 +445,10 @@ fn time_calls(timer: &Timer) {
     let state = &mut State::new(1, 0, any);
     row(state, "text", "no", [State::text::<Engine>, State::text::<Plain>], 0);
     row(state, "assemble", "no", [State::assemble::<Engine>, State::assemble::<Plain>], 0);
-    for (number, name) in NAMES.iter().enumerate() {
+    for (number, of) in TABLE.iter().enumerate() {
         let mut random = Random::new(number as u64);
-        let words = (0..64).map(|_| word_of(number, &mut random)).collect();
-        row(&mut State::new(16, 0, words), name, "empty", step, 0);
+        let words = (0..64).map(|_| word_of(of, &mut random)).collect();
+        row(&mut State::new(16, 0, words), of.name, "empty", step, 0);
     }
     slowest.say("these", 1.5);
 }
@@ -525,7 +515,7 @@ fn time_subtotals(timer: &Timer) {
 
 /// What each further segment of 16 bytes, and each further entry, adds to a step: about the same.
 fn time_growth(timer: &Timer) {
-    let any = words(16 * NAMES.len());
+    let any = words(16 * TABLE.len());
     let engine = |k, count| {
         let mut state = State::new(k, count, any.clone());
         let [engine] = timer.time(&mut state, [State::step::<Engine> as Turn], count);

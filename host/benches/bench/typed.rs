@@ -14,6 +14,8 @@ trait Lane: Copy {
     fn extended(self) -> u64;
     /// The sum modulo 2^width.
     fn plus(self, other: Self) -> Self;
+    /// The difference modulo 2^width.
+    fn minus(self, other: Self) -> Self;
     /// The lane itself if the lowest bit of `bits` is set, else 0.
     fn if_set(self, bits: u8) -> Self;
 }
@@ -41,6 +43,11 @@ macro_rules! lane {
             #[inline(always)]
             fn plus(self, other: Self) -> Self {
                 self.wrapping_add(other)
+            }
+
+            #[inline(always)]
+            fn minus(self, other: Self) -> Self {
+                self.wrapping_sub(other)
             }
 
             #[inline(always)]
@@ -125,34 +132,55 @@ fn pairs<W: Wide>(destination: &mut [u8], source: &[u8], predicate: &[u8]) {
     }
 }
 
-/// saddlb, uaddlb, and with `top` saddlt, uaddlt.
-fn long<W: Wide>(destination: &mut [u8], first: &[u8], second: &[u8], top: bool) {
-    if top {
-        long_halves::<W, true>(destination, first, second)
-    } else {
-        long_halves::<W, false>(destination, first, second)
+/// How a word of the widening family makes a lane of two.
+#[derive(Clone, Copy)]
+struct Widening {
+    /// The first source has the full width.
+    wide: bool,
+    /// The first less the second.
+    subtract: bool,
+    /// The upper half-width lane of each two.
+    top: bool,
+}
+
+/// saddlb to usubwt.
+fn widening<W: Wide>(to: &mut [u8], first: &[u8], second: &[u8], form: Widening) {
+    match (form.wide, form.subtract, form.top) {
+        (false, false, false) => made_of_two::<W, false, false, false>(to, first, second),
+        (false, false, true) => made_of_two::<W, false, false, true>(to, first, second),
+        (false, true, false) => made_of_two::<W, false, true, false>(to, first, second),
+        (false, true, true) => made_of_two::<W, false, true, true>(to, first, second),
+        (true, false, false) => made_of_two::<W, true, false, false>(to, first, second),
+        (true, false, true) => made_of_two::<W, true, false, true>(to, first, second),
+        (true, true, false) => made_of_two::<W, true, true, false>(to, first, second),
+        (true, true, true) => made_of_two::<W, true, true, true>(to, first, second),
     }
 }
 
-fn long_halves<W: Wide, const TOP: bool>(destination: &mut [u8], first: &[u8], second: &[u8]) {
+fn made_of_two<W: Wide, const WIDE: bool, const SUBTRACT: bool, const TOP: bool>(
+    to: &mut [u8],
+    first: &[u8],
+    second: &[u8],
+) {
     let half = W::Half::BYTES;
     let at = if TOP { half } else { 0 };
+    let narrow = |lane: &[u8]| W::from(W::Half::read(&lane[at..at + half]));
     let sources = first.chunks_exact(W::BYTES).zip(second.chunks_exact(W::BYTES));
-    for (lane, (a, b)) in destination.chunks_exact_mut(W::BYTES).zip(sources) {
-        let a = W::from(W::Half::read(&a[at..at + half]));
-        let b = W::from(W::Half::read(&b[at..at + half]));
-        a.plus(b).write(lane);
+    for (lane, (a, b)) in to.chunks_exact_mut(W::BYTES).zip(sources) {
+        let a = if WIDE { W::read(a) } else { narrow(a) };
+        let value = if SUBTRACT { a.minus(narrow(b)) } else { a.plus(narrow(b)) };
+        value.write(lane);
     }
 }
 
-/// What a word is of; a flag is its sign, or which halves it adds.
+/// What a word is of.
 #[derive(Clone, Copy)]
 enum Form {
     Across { signed: bool },
     Segments,
     LongAcross { signed: bool },
     Pairs { signed: bool },
-    Long { signed: bool, top: bool },
+    Widening { signed: bool, form: Widening },
 }
 
 /// The word's form, and its size if that is allowed.
@@ -168,8 +196,10 @@ fn decode(word: u32) -> Result<(Form, u32), Refusal> {
         _ => match word & 0xBF3F_FC00 {
             0x0E30_3800 => Form::LongAcross { signed: true },
             0x2E30_3800 => Form::LongAcross { signed: false },
-            _ if word & 0xFF20_F000 == 0x4500_0000 => {
-                Form::Long { signed: word & 0x800 == 0, top: word & 0x400 != 0 }
+            _ if word & 0xFF20_A000 == 0x4500_0000 => {
+                let bit = |at: u32| word >> at & 1 == 1;
+                let form = Widening { wide: bit(14), subtract: bit(12), top: bit(10) };
+                Form::Widening { signed: !bit(11), form }
             }
             _ => return Err(Refusal::Unknown),
         },
@@ -178,7 +208,7 @@ fn decode(word: u32) -> Result<(Form, u32), Refusal> {
         Form::Across { signed } => !signed || size < 3,
         Form::Segments => true,
         Form::LongAcross { .. } => size < 2 || (size == 2 && word >> 30 & 1 == 1),
-        Form::Pairs { .. } | Form::Long { .. } => size > 0,
+        Form::Pairs { .. } | Form::Widening { .. } => size > 0,
     };
     if allowed {
         Ok((form, size))
@@ -264,12 +294,17 @@ pub fn step(
         (Form::Pairs { signed: false }, 1) => pairs::<u16>(to, source, predicate),
         (Form::Pairs { signed: false }, 2) => pairs::<u32>(to, source, predicate),
         (Form::Pairs { signed: false }, _) => pairs::<u64>(to, source, predicate),
-        (Form::Long { signed: true, top }, 1) => long::<i16>(to, source, vector(m), top),
-        (Form::Long { signed: true, top }, 2) => long::<i32>(to, source, vector(m), top),
-        (Form::Long { signed: true, top }, _) => long::<i64>(to, source, vector(m), top),
-        (Form::Long { signed: false, top }, 1) => long::<u16>(to, source, vector(m), top),
-        (Form::Long { signed: false, top }, 2) => long::<u32>(to, source, vector(m), top),
-        (Form::Long { signed: false, top }, _) => long::<u64>(to, source, vector(m), top),
+        (Form::Widening { signed, form }, _) => {
+            let second = vector(m);
+            match (signed, size) {
+                (true, 1) => widening::<i16>(to, source, second, form),
+                (true, 2) => widening::<i32>(to, source, second, form),
+                (true, _) => widening::<i64>(to, source, second, form),
+                (false, 1) => widening::<u16>(to, source, second, form),
+                (false, 2) => widening::<u32>(to, source, second, form),
+                (false, _) => widening::<u64>(to, source, second, form),
+            }
+        }
     }
     Ok(())
 }

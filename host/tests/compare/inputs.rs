@@ -1,39 +1,43 @@
 //! Inputs for the comparison: valid ones, damaged ones and noise.
 
 use crate::random::Random;
+use reference::{Row, TABLE};
 
-/// Masks and values of the eleven rows.
-const ROWS: [(u32, u32); 11] = [
-    (0xFF3F_E000, 0x0400_2000),
-    (0xFF3F_E000, 0x0401_2000),
-    (0xFF3F_E000, 0x0405_2000),
-    (0xBF3F_FC00, 0x0E30_3800),
-    (0xBF3F_FC00, 0x2E30_3800),
-    (0xFF3F_E000, 0x4404_A000),
-    (0xFF3F_E000, 0x4405_A000),
-    (0xFF20_FC00, 0x4500_0000),
-    (0xFF20_FC00, 0x4500_0400),
-    (0xFF20_FC00, 0x4500_0800),
-    (0xFF20_FC00, 0x4500_0C00),
-];
-
+const LETTERS: [&str; 5] = ["b", "h", "s", "d", "q"];
 const LONG: usize = 10_000;
 const MOST_JOURNAL: usize = 65_536;
 
-/// A word: mostly of a row, whatever its size; sometimes with a bit turned; sometimes noise.
+/// A word: mostly of a row, whatever its size, and then often with its destination among its sources;
+/// sometimes with a bit turned; sometimes noise.
 pub fn word(random: &mut Random) -> u32 {
-    let (mask, value) = random.pick(&ROWS);
-    let word = value | random.word() & !mask;
+    let row = random.pick(&TABLE);
+    let word = row.value | random.word() & !row.mask;
     match random.below(10) {
         0 => random.word(),
         1 => word ^ 1 << random.below(32),
+        2..=4 => with_destination_read(random, &row, word),
         _ => word,
     }
 }
 
+/// The word with its destination for a source: for the first, the second if it has one, or both.
+fn with_destination_read(random: &mut Random, row: &Row, word: u32) -> u32 {
+    let mut places: &[u32] = &[5];
+    if has_second(row) {
+        places = random.pick(&[&[5][..], &[16], &[5, 16]]);
+    }
+    let d = word & 31;
+    places.iter().fold(word, |word, place| word & !(31 << place) | d << place)
+}
+
+/// Whether the words of a row have a second source, bits 20:16.
+pub fn has_second(row: &Row) -> bool {
+    row.mask & 31 << 16 == 0
+}
+
 /// Every word that a row matches, whatever its size.
 pub fn every_word_of_a_row() -> impl Iterator<Item = u32> {
-    ROWS.iter().flat_map(|&(mask, value)| {
+    TABLE.iter().flat_map(|&Row { mask, value, .. }| {
         // The numbers within the free bits, upwards: adding one to the mask's ones carries over them.
         let mut free = Some(0u32);
         std::iter::from_fn(move || {
@@ -273,13 +277,19 @@ fn damage(random: &mut Random, text: &mut Vec<u8>) {
     }
 }
 
+/// Every name with three vector registers, each with every letter.
+pub fn every_text_of_three_lanes() -> impl Iterator<Item = String> {
+    TABLE.iter().flat_map(|row| {
+        (0..125).map(move |number| {
+            let [d, n, m] = [number / 25, number / 5 % 5, number % 5].map(|at| LETTERS[at]);
+            format!("{} z31.{}, z0.{}, z7.{}", row.name, d, n, m)
+        })
+    })
+}
+
 /// Names, registers and sizes put together as some form has them, fitting or not.
 fn pieces(random: &mut Random, text: &mut Vec<u8>) {
-    const NAMES: [&str; 14] = [
-        "saddv", "uaddv", "addqv", "saddlv", "uaddlv", "sadalp", "uadalp", "saddlb", "saddlt",
-        "uaddlb", "uaddlt", "addv", "saddl", "uaddqv",
-    ];
-    const LETTERS: [&str; 5] = ["b", "h", "s", "d", "q"];
+    const NO_NAMES: [&str; 6] = ["addv", "saddl", "uaddqv", "ssubv", "saddw", "usublw"];
     const ARRANGEMENTS: [&str; 9] = ["8b", "16b", "4h", "8h", "2s", "4s", "1d", "2d", "32b"];
     let numbers: Vec<String> = (0..4)
         .map(|_| match random.below(12) {
@@ -291,11 +301,15 @@ fn pieces(random: &mut Random, text: &mut Vec<u8>) {
             _ => random.below(8).to_string(),
         })
         .collect();
-    let name = random.pick(&NAMES);
+    let name = match random.below(6) {
+        0 => random.pick(&NO_NAMES),
+        _ => random.pick(&TABLE).name,
+    };
     let size = random.below(4);
     let half = if random.one_in(4) { random.below(5) } else { size.max(1) - 1 };
     let other = if random.one_in(4) { random.below(5) } else { half };
     let (wide, narrow, second) = (LETTERS[size], LETTERS[half], LETTERS[other]);
+    let first = random.pick(&[wide, narrow]);
     let arrangement = random.pick(&ARRANGEMENTS);
     let [a, b, c] = [&numbers[0], &numbers[1], &numbers[2]];
     let made = match random.below(5) {
@@ -303,7 +317,7 @@ fn pieces(random: &mut Random, text: &mut Vec<u8>) {
         1 => format!("{} v{}.{}, p{}, z{}.{}", name, a, arrangement, b, c, wide),
         2 => format!("{} {}{}, v{}.{}", name, wide, a, b, arrangement),
         3 => format!("{} z{}.{}, p{}/m, z{}.{}", name, a, wide, b, c, narrow),
-        _ => format!("{} z{}.{}, z{}.{}, z{}.{}", name, a, wide, b, narrow, c, second),
+        _ => format!("{} z{}.{}, z{}.{}, z{}.{}", name, a, wide, b, first, c, second),
     };
     text.extend(made.as_bytes());
 }

@@ -7,6 +7,7 @@ mod engine;
 mod guarded;
 mod inputs;
 mod random;
+mod reached;
 mod tally;
 
 use engine::{numbers, Numbers, Way};
@@ -19,8 +20,11 @@ use tally::{Call, Tally};
 /// More than any length of a part.
 const MOST: usize = 70_000;
 
-/// So many inputs reach every answer of every call; fewer may miss some.
+/// So many inputs reach every answer of every call, and steps of every row, size and destination; fewer
+/// may miss some.
 const ENOUGH: u64 = 100_000;
+
+const UNDEFINED: u64 = 8;
 
 /// What the calls are lent. The reference works on the bytes here, the engine on its guarded parts.
 #[derive(Default)]
@@ -181,7 +185,26 @@ impl<'a> Comparison<'a> {
             }
         }
         say(&format!("words of a row: {} accepted, {} undefined", counts[0], counts[8]));
-        assert_eq!((counts[0], counts[8]), (542_720, 161_792), "the paper's counts");
+        assert_eq!(
+            (counts[0], counts[8]),
+            (1_722_368, 555_008),
+            "the counts worked out from the table"
+        );
+    }
+
+    /// Every name with three vector registers, each with every letter: those of a widening word, and all
+    /// that differ from them in letters alone.
+    fn every_text_of_three_lanes(&mut self) {
+        let mut accepted = 0;
+        for text in inputs::every_text_of_three_lanes() {
+            self.parts.out = text.into_bytes();
+            self.engine.out.set(&self.parts.out);
+            let engine = self.way().assemble(self.engine.out.part());
+            let reference = numbers(reference::assemble(&self.parts.out));
+            self.same(Call::Assemble, engine, reference, &[]);
+            accepted += u64::from(reference[0] == 0);
+        }
+        assert_eq!(accepted, 16 * 3, "a text for each widening row and size");
     }
 
     fn fresh(&mut self) {
@@ -217,6 +240,9 @@ impl<'a> Comparison<'a> {
     }
 
     fn move_forward(&mut self, way: Way, k: usize) -> u64 {
+        let Parts { program, journal, .. } = &self.parts;
+        let position = reference::position(k, journal);
+        let next = position.and_then(|position| reference::read_word(program, position));
         let engine = way.step(
             k,
             self.engine.z.part(),
@@ -228,6 +254,9 @@ impl<'a> Comparison<'a> {
         let reference = numbers(reference::step(k, z, p, program, journal));
         self.same(Call::Step, engine, reference, &[k]);
         self.agree(Call::Step, &["z", "p", "program", "journal"]);
+        if let (Ok(next), 0 | UNDEFINED) = (next, reference[0]) {
+            self.tally.count_word(next.word);
+        }
         reference[0]
     }
 
@@ -514,6 +543,12 @@ fn every_word_of_a_row_agrees() {
 }
 
 #[test]
+fn every_text_of_three_lanes_agrees() {
+    let seed = variable("LN_SEED", 1);
+    Comparison::new(seed, Guard::After, &mut Tally::default()).every_text_of_three_lanes();
+}
+
+#[test]
 fn inputs_of_every_call_agree() {
     let inputs = variable("LN_INPUTS", 1_000_000);
     let seed = variable("LN_SEED", 1);
@@ -527,6 +562,6 @@ fn inputs_of_every_call_agree() {
     say(&format!("{} inputs compared, 0 differ, seed {}", tally.total(), seed));
     if !missing.is_empty() {
         say(&format!("not reached by these inputs: {}", missing));
-        assert!(inputs < ENOUGH, "so many inputs reach every answer");
+        assert!(inputs < ENOUGH, "so many inputs reach every answer and every row");
     }
 }

@@ -1,5 +1,6 @@
-//! How often each call gave each answer.
+//! How often each call gave each answer, and which words were stepped.
 
+use crate::reached::Reached;
 use ghishmadul::Refusal;
 use std::fmt::Write;
 
@@ -40,6 +41,7 @@ const CALLS: [(&str, &[usize]); 13] = [
 #[derive(Default)]
 pub struct Tally {
     counts: [[u64; 15]; CALLS.len()],
+    steps: Reached,
 }
 
 impl Tally {
@@ -47,11 +49,16 @@ impl Tally {
         self.counts[call as usize][number as usize] += 1;
     }
 
+    /// Counts the word of a step that was done or refused for the word's size.
+    pub fn count_word(&mut self, word: u32) {
+        self.steps.count(word);
+    }
+
     pub fn total(&self) -> u64 {
         self.counts.iter().flatten().sum()
     }
 
-    /// A line for each call: its answers by number.
+    /// A line for each call: its answers by number; then the words that were stepped.
     pub fn table(&self) -> String {
         let mut table = format!("{:15}{:>9}", "call", "done");
         for number in 1..15 {
@@ -67,13 +74,15 @@ impl Tally {
                 }
             }
         }
-        table
+        table + "\n\n" + &self.steps.table()
     }
 
-    /// For each call the answers that it can give and that never came.
+    /// For each call the answers that it can give and that never came, and the words never stepped.
     pub fn missing(&self) -> Vec<String> {
         let calls = CALLS.iter().zip(&self.counts);
-        calls.filter_map(|((name, refusals), counts)| missing(name, refusals, counts)).collect()
+        let answers =
+            calls.filter_map(|((name, refusals), counts)| missing(name, refusals, counts));
+        answers.chain(self.steps.missing()).collect()
     }
 }
 
