@@ -16,7 +16,7 @@ use Rattle.parts.proofs.Same.{both-left, both-right, same-true, same-not}
 use Rattle.words.specs.Table.{nameBytes, rows, rowAt, table, noRow}
 use Rattle.words.specs.declared.Row.{Row}
 use Rattle.words.proofs.Every.{every, at-each}
-use Rattle.words.proofs.Rows.{at-any}
+use Rattle.words.proofs.Rows.{at-any, row-read}
 use Rattle.names.specs.Text.{keyOf, nameOf, keys, keyFrom, rowNamed}
 
 -- a row's name and its space, by its six bytes: they have the space, or it still comes
@@ -57,9 +57,16 @@ pub name-six : (row : ℕ) → row < rows → (getD (keyOf row) 5 0 ≡ 32 → �
 name-six row h e = sym (row-good row h .spaced) ∙ rw (ne-eqb _ _ e)
 
 -- fewer bytes than a key has are no key
-pub short-not : (row : ℕ) (text : List ℕ) → row < rows → length text < nameBytes → sameBytes (keyOf row) (take nameBytes text) ≡ false
-short-not row text h short =
-    same-not (keyOf row) (take nameBytes text) (λ e. omega (arith, row-good row h .key, ap length e, length-take nameBytes text))
+pub short-not : (key text : List ℕ) → nameBytes ≡ length key → length text < nameBytes → sameBytes key (take nameBytes text) ≡ false
+short-not key text size short = same-not key (take nameBytes text) (λ e. omega (arith, size, ap length e, length-take nameBytes text))
+
+-- the six bytes of a line of the table at hand
+pub line-key : (lines : List Row) (i : ℕ) (outside : Row) → lines ≡ table → i < rows → getD lines i outside .0 ≡ keyOf i
+unfolding keyOf
+line-key lines i outside is h = ap (λ (r : Row). r .0) (row-read lines i outside is h)
+
+pub line-size : (lines : List Row) (i : ℕ) (outside : Row) → lines ≡ table → i < rows → nameBytes ≡ length (getD lines i outside .0)
+line-size lines i outside is h = sym (ap length (line-key lines i outside is h) ∙ row-good i h .key)
 
 -- two results that the contract of `row_named` allows are the same
 pub row-named-determined : (text : List ℕ) (r s : ℕ) → r ≡ rowNamed text → s ≡ rowNamed text → r ≡ s

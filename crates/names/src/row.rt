@@ -1,12 +1,13 @@
 // The rows by name: the first six bytes of a text tell its row.
 use words::NAME;
 use words::ROWS;
+use words::Row;
 ghost use mathlib.Core.Path.{_≡_};
 ghost use Prim.Native.Nat.{_<_};
-ghost use lib.ListN.{take};
+ghost use lib.ListN.{length, take};
 ghost use Rattle.parts.specs.Part.{sameBytes};
 ghost use Rattle.words.specs.Table.{nameBytes, rows};
-ghost use Rattle.names.specs.Text.{keyOf, rowNamed, Key};
+ghost use Rattle.names.specs.Text.{rowNamed, Key};
 
 // The first six bytes of a text of a row.
 pub fn key_of(row: usize) -> [u8; NAME]
@@ -17,15 +18,15 @@ pub fn key_of(row: usize) -> [u8; NAME]
     entry.0
 }
 
-// Whether the first six bytes are those of a row.
-fn is_named(text: &[u8], row: usize) -> bool
-    requires { ⌜ row < rows ⌝ }
-    ensures { λ r. ⌜ r ≡ sameBytes (keyOf row) (take nameBytes (now (text .entry))) ⌝ }
+// Whether the first six bytes are those of a line of the table.
+fn is_named(text: &[u8], line: Row) -> bool
+    requires { ⌜ nameBytes ≡ length (line .0) ⌝ }
+    ensures { λ r. ⌜ r ≡ sameBytes (line .0) (take nameBytes (now (text .entry))) ⌝ }
 {
     if text.len() < NAME {
         return false;
     }
-    let key = key_of(row);
+    let key = line.0;
     check::same(&key, &text[..NAME])
 }
 
@@ -33,9 +34,10 @@ fn is_named(text: &[u8], row: usize) -> bool
 pub fn row_named(text: &[u8]) -> usize
     ensures { λ r. ⌜ r ≡ rowNamed (now (text .entry)) ⌝ }
 {
+    let lines = words::table();
     let mut i = 0;
     while i < ROWS {
-        if is_named(text, i) {
+        if is_named(text, lines[i]) {
             return i;
         }
         i += 1;

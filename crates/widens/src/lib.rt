@@ -62,7 +62,16 @@ fn write_widening(
 {
     let first = registers::register(k, Kind::Vector, z, f.n);
     let second = registers::register(k, Kind::Vector, z, f.m);
-    let number = elements::widening_lane(first, second, w, parameters, e);
+    let number = elements::widening_lane(
+        first,
+        second,
+        w,
+        parameters.signed,
+        parameters.top,
+        parameters.wide,
+        parameters.subtract,
+        e,
+    );
     write_lane(k, z, f.d, w, e, number);
 }
 

@@ -4,13 +4,14 @@
 use mathlib.Core.Path.{_≡_, refl, _∙_, ap}
 use mathlib.Core.Bool.{Bool, true, false, cond}
 use mathlib.Core.Logic.{_↔_}
+use mathlib.Core.List.{List}
 use Prim.Native.Nat.{ℕ, _≤_, _<_}
 use native.Mathlib.Omega.{arith}
 use lib.Dec.{ltb}
 use borrow.Author.Tests.{ltb-true, ltb-false}
 use Rattle.machine.specs.Refusal.{DONE, UNKNOWN, UNDEFINED}
 use Rattle.machine.proofs.Tests.{one-result}
-use Rattle.words.specs.Table.{rows, rowAt, rowOf, familyOf, formOf, matches, allows}
+use Rattle.words.specs.Table.{table, rows, rowAt, rowOf, familyOf, formOf, matches, allows}
 use Rattle.words.specs.Field.{Counted}
 use Rattle.words.specs.Decode.{decoded, judged, fieldsAt, numberOf, RowWith}
 use Rattle.words.specs.declared.Row.{Row}
@@ -28,6 +29,9 @@ decode-determined word = one-result (decoded word)
 
 pub number-of-determined : (d : Decoded) (r s : ℕ) → r ≡ numberOf d → s ≡ numberOf d → r ≡ s
 number-of-determined d = one-result (numberOf d)
+
+pub table-determined : (r s : List Row) → r ≡ table → s ≡ table → r ≡ s
+table-determined = one-result table
 
 pub row-at-determined : (i : ℕ) (r s : Row) → r ≡ rowAt i → s ≡ rowAt i → r ≡ s
 row-at-determined i = one-result (rowAt i)
