@@ -1,4 +1,5 @@
 // What a lane of the families that write every lane is made of: elements of the sources, added or subtracted, and the old lane.
+use words::Parameters;
 ghost use mathlib.Core.Path.{_≡_};
 ghost use mathlib.Core.Bool.{cond};
 ghost use mathlib.Core.List.{[], _∷_};
@@ -6,7 +7,7 @@ ghost use Prim.Native.Nat.{_+_, _*_, _/_};
 ghost use Rattle.lanes.specs.Integer.{residue};
 ghost use Rattle.lanes.specs.Sum.{element, total};
 ghost use Rattle.sums.specs.Sums.{Governs};
-ghost use Rattle.meaning.specs.Terms.{sumOf, pairwiseTerms, selected, wideningTerms};
+ghost use Rattle.meaning.specs.Terms.{elementOf, sumOf, pairwiseTerms, selected, firstTerm, wideningTerms};
 ghost use Rattle.elements.specs.Needs.{ElementIn, HalfLanes};
 
 // The integer that element e of w bytes stands for, at 64 bits.
@@ -57,36 +58,25 @@ pub fn pairwise_lane(p: &[u8], n: &[u8], d: &[u8], w: usize, signed: bool, e: us
 }
 
 // The first element of a widening word's lane e: the selected half element of the first source, or in a wide form its lane e.
-fn first_element(n: &[u8], w: usize, signed: bool, top: bool, wide: bool, e: usize) -> u64
+fn first_element(n: &[u8], w: usize, parameters: Parameters, e: usize) -> u64
     requires { ⌜ HalfLanes w e (now n) ⌝ }
-    ensures { λ r. ⌜ r ≡ residue 64 (element signed (cond wide w (w / 2)) (now (n .entry)) (cond wide e (selected top e))) ⌝ }
+    ensures { λ r. ⌜ r ≡ residue 64 (elementOf (record { operand1 = now (n .entry); operand2 = []; old = [] }) (firstTerm parameters w e)) ⌝ }
 {
-    if wide {
-        element_at(n, w, signed, e)
+    if parameters.wide {
+        element_at(n, w, parameters.signed, e)
     } else {
-        half_at(n, w, signed, top, e)
+        half_at(n, w, parameters.signed, parameters.top, e)
     }
 }
 
-// Lane e of a widening word: the first element and the selected half element of the second source, added or subtracted. The parameters come
-// one by one, since a compiler does not see through a struct that is lent.
-pub fn widening_lane(
-    n: &[u8],
-    m: &[u8],
-    w: usize,
-    signed: bool,
-    top: bool,
-    wide: bool,
-    subtract: bool,
-    e: usize,
-) -> u64
+// Lane e of a widening word: the first element and the selected half element of the second source, added or subtracted.
+pub fn widening_lane(n: &[u8], m: &[u8], w: usize, parameters: Parameters, e: usize) -> u64
     requires { ⌜ HalfLanes w e (now n) × HalfLanes w e (now m) ⌝ }
-    ensures { λ r. ⌜ r ≡ residue 64 (sumOf (record { operand1 = now (n .entry); operand2 = now (m .entry); old = [] })
-        (wideningTerms (record { signed = signed; top = top; wide = wide; subtract = subtract }) w e)) ⌝ }
+    ensures { λ r. ⌜ r ≡ residue 64 (sumOf (record { operand1 = now (n .entry); operand2 = now (m .entry); old = [] }) (wideningTerms parameters w e)) ⌝ }
 {
-    let first = first_element(n, w, signed, top, wide, e);
-    let second = half_at(m, w, signed, top, e);
-    if subtract {
+    let first = first_element(n, w, parameters, e);
+    let second = half_at(m, w, parameters.signed, parameters.top, e);
+    if parameters.subtract {
         std::num::wrapping_sub_u64(first, second)
     } else {
         std::num::wrapping_add_u64(first, second)

@@ -62,29 +62,26 @@ fn write_widening(
 {
     let first = registers::register(k, Kind::Vector, z, f.n);
     let second = registers::register(k, Kind::Vector, z, f.m);
-    let number = elements::widening_lane(
-        first,
-        second,
-        w,
-        parameters.signed,
-        parameters.top,
-        parameters.wide,
-        parameters.subtract,
-        e,
-    );
+    let number = elements::widening_lane(first, second, w, parameters, e);
     write_lane(k, z, f.d, w, e, number);
 }
 
 // Writes every lane of a pairwise accumulate in place: what a lane is made of lies in the same lane of each register, so no lane that is
-// written is read again.
+// written is read again. The parameters are its own copy, so that a compiler need not look at them in every lane.
 fn pairwise_lanes(parameters: Parameters, w: usize, f: Fields, k: usize, z: &mut [u8], p: &[u8])
     requires { ⌜ WideLanes Pairwise parameters w f k (state (now z) (now p)) ⌝ }
     ensures { λ _. ⌜ now (z .exit) ≡ executed f k (state (now (z .entry)) (now (p .entry))) .z ⌝ }
 {
+    let own = Parameters {
+        signed: parameters.signed,
+        top: parameters.top,
+        wide: parameters.wide,
+        subtract: parameters.subtract,
+    };
     let count = registers::register_bytes(k, Kind::Vector) / w;
     let mut e = 0;
     while e < count {
-        write_pairwise(parameters, w, f, k, z, p, e);
+        write_pairwise(own, w, f, k, z, p, e);
         e += 1;
     }
 }
@@ -94,10 +91,16 @@ fn widening_lanes(parameters: Parameters, w: usize, f: Fields, k: usize, z: &mut
     requires { ⌜ WideLanes Widening parameters w f k (state (now z) (now p)) ⌝ }
     ensures { λ _. ⌜ now (z .exit) ≡ executed f k (state (now (z .entry)) (now (p .entry))) .z ⌝ }
 {
+    let own = Parameters {
+        signed: parameters.signed,
+        top: parameters.top,
+        wide: parameters.wide,
+        subtract: parameters.subtract,
+    };
     let count = registers::register_bytes(k, Kind::Vector) / w;
     let mut e = 0;
     while e < count {
-        write_widening(parameters, w, f, k, z, p, e);
+        write_widening(own, w, f, k, z, p, e);
         e += 1;
     }
 }

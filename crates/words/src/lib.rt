@@ -43,16 +43,14 @@ pub struct Form {
     pub parameters: Parameters,
 }
 
-// What a row's words do, as the table has it: a family and, of the widening family, sums and differences, long and wide.
+// What a row's words do, as the table has it; of those that widen, whether the first source has the full width, and whether the second is
+// subtracted.
 pub enum Operation {
     Reduce,
     Segments,
     Across,
     Pairs,
-    AddLong,
-    SubLong,
-    AddWide,
-    SubWide,
+    Widen(bool, bool),
 }
 
 // Name, with a space where it has five letters; mask and value, a word being of this row where word AND mask = value; operation; whether
@@ -105,13 +103,13 @@ const ACROSS: Operation = Operation::Across;
 
 const PAIRS: Operation = Operation::Pairs;
 
-const ADD_LONG: Operation = Operation::AddLong;
+const ADD_LONG: Operation = Operation::Widen(false, false);
 
-const SUB_LONG: Operation = Operation::SubLong;
+const SUB_LONG: Operation = Operation::Widen(false, true);
 
-const ADD_WIDE: Operation = Operation::AddWide;
+const ADD_WIDE: Operation = Operation::Widen(true, false);
 
-const SUB_WIDE: Operation = Operation::SubWide;
+const SUB_WIDE: Operation = Operation::Widen(true, true);
 
 // The families of the operations.
 const REDUCTION: Family = Family::Low(LowFamily::Reduction);
@@ -196,10 +194,7 @@ fn family_for(operation: Operation) -> Family
         Operation::Segments => SEGMENT,
         Operation::Across => LONG,
         Operation::Pairs => PAIRWISE,
-        Operation::AddLong => WIDENING,
-        Operation::SubLong => WIDENING,
-        Operation::AddWide => WIDENING,
-        Operation::SubWide => WIDENING,
+        Operation::Widen(_, _) => WIDENING,
     }
 }
 
@@ -208,14 +203,11 @@ fn is_wide(operation: Operation) -> bool
     ensures { λ r. ⌜ r ≡ isWide operation ⌝ }
 {
     match operation {
+        Operation::Widen(wide, _) => wide,
         Operation::Reduce => false,
         Operation::Segments => false,
         Operation::Across => false,
         Operation::Pairs => false,
-        Operation::AddLong => false,
-        Operation::SubLong => false,
-        Operation::AddWide => true,
-        Operation::SubWide => true,
     }
 }
 
@@ -224,14 +216,11 @@ fn subtracts(operation: Operation) -> bool
     ensures { λ r. ⌜ r ≡ subtracts operation ⌝ }
 {
     match operation {
+        Operation::Widen(_, subtract) => subtract,
         Operation::Reduce => false,
         Operation::Segments => false,
         Operation::Across => false,
         Operation::Pairs => false,
-        Operation::AddLong => false,
-        Operation::SubLong => true,
-        Operation::AddWide => false,
-        Operation::SubWide => true,
     }
 }
 
@@ -386,11 +375,11 @@ fn field_of(word: u32, low: u32, count: u32) -> usize
     ((word >> low) % (1 << count)) as usize
 }
 
-// The fields of a word of the row at a place.
-fn fields_at(i: usize, word: u32) -> Fields
+// The fields of a word of the row at a place, whose family is at hand.
+fn fields_at(i: usize, family: Family, word: u32) -> Fields
+    requires { ⌜ family ≡ familyOf i ⌝ }
     ensures { λ r. ⌜ r ≡ fieldsAt i word ⌝ }
 {
-    let family = family_of(i);
     Fields {
         row: i,
         size: field_of(word, place::SIZE, SIZE_DIGITS),
@@ -410,8 +399,10 @@ pub fn decode(word: u32) -> Decoded
     if ROWS <= i {
         return Decoded::Unknown;
     }
-    let fields = fields_at(i, word);
-    if allows_size(form_of(i), fields.q, fields.size) {
+    let form = form_of(i);
+    let family = form.family;
+    let fields = fields_at(i, family, word);
+    if allows_size(form, fields.q, fields.size) {
         Decoded::Word(fields)
     } else {
         Decoded::Undefined

@@ -6,7 +6,6 @@ use mathlib.Core.Path.{sym, _∙_, ap, ap₂}
 use mathlib.Core.List.{[]}
 use lib.IntN.{ℤ}
 use Rattle.lanes.proofs.Sums.{residue-two, residue-less}
-use Rattle.words.specs.declared.Parameters.{Parameters}
 use Rattle.meaning.specs.Terms.{Operands, Operand2, elementOf, halfTerm, firstTerm}
 use Rattle.elements.proofs.widening_lane.Statement.{statement}
 use Rattle.elements.proofs.widening_lane.Tie as tie
@@ -18,14 +17,11 @@ start c = c .before .before .before .before
 abbrev operands : tie.Start → Operands
 operands s = record { operand1 = s .args .n .now; operand2 = s .args .m .now; old = [] }
 
-abbrev parameters : tie.Start → Parameters
-parameters s = record { signed = s .args .signed; top = s .args .top; wide = s .args .wide; subtract = s .args .subtract }
-
 abbrev element1 : tie.Start → ℤ
-element1 s = elementOf (operands s) (firstTerm (parameters s) (s .args .w) (s .args .e))
+element1 s = elementOf (operands s) (firstTerm (s .args .parameters) (s .args .w) (s .args .e))
 
 abbrev element2 : tie.Start → ℤ
-element2 s = elementOf (operands s) (halfTerm Operand2 (parameters s) (s .args .w) (s .args .e))
+element2 s = elementOf (operands s) (halfTerm Operand2 (s .args .parameters) (s .args .w) (s .args .e))
 
 returns : tie.Need-returns
 returns c =

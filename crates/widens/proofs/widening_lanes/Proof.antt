@@ -11,10 +11,10 @@ use Rattle.widens.proofs.widening_lanes.Statement.{statement}
 use Rattle.widens.proofs.widening_lanes.Tie as tie
 
 abbrev Inv-loop : tie.InvT-loop
-Inv-loop parameters w f k z₀ p count e₀ z e = (e ≤ count) × (z ≡ fileAfter f k (state z₀ p) e)
+Inv-loop w f k z₀ p own count e₀ z e = (e ≤ count) × (z ≡ fileAfter f k (state z₀ p) e)
 
 abbrev μ-loop : tie.MeasureT-loop
-μ-loop parameters w f k z₀ p count e₀ z e = count - e
+μ-loop w f k z₀ p own count e₀ z e = count - e
 
 -- where the word stands, before the loop, and where a turn begins
 abbrev begin : tie.After-register-bytes Inv-loop μ-loop → tie.Start Inv-loop μ-loop

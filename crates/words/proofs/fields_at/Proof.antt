@@ -12,7 +12,6 @@ pub fields-at-spec : {M : Type 1} → statement M
 fields-at-spec =
     tie.close
     (tie.spec
-    (λ c κs. search needs)
     (λ c κs. omega arith)
     (λ c κs. omega arith)
     (λ c κs. omega arith)
