@@ -5,12 +5,14 @@ steps it and prints this text; bin/ assembles the text to the word, and names th
 and size with the fields at their ends: bin/ and walk give the same number. So bin/'s assembler is held to the proved engine's answers
 over all accepted words; that it accepts no other text is held by `sound`, over texts with a change at any place, and by `three_registers`,
 over every choice of letters."""
+import multiprocessing
 import random
 import struct
 from itertools import product
 
 from sessions import saying, words
 
+from . import common
 from .common import expect, walk
 
 WORDS, UNDEFINED = 1722368, 555008
@@ -83,24 +85,35 @@ def stepped(batch):
         expect(line == "%d 0 %s %s" % (place, reads, "0" * 32), line, "for the word", hex(word))
 
 
-def check():
+def row_checked(row):
+    """Every word of a row: how many are accepted and undefined, some of those accepted, and how many checks held."""
+    name, mask, value, sizes = row
     accepted, undefined, batch, some = 0, 0, [], []
-    for name, mask, value, sizes in TABLE:
-        for word in matching(mask, value):
-            if not allowed(name, sizes, word):
-                undefined += 1
-                continue
-            accepted += 1
-            reads = text(name, word)
-            expect(words.assembled(reads) == word, reads, "is not assembled to", hex(word))
-            expect(words.named(word) == reads, hex(word), "is not named", reads)
-            batch.append((word, reads))
-            if len(batch) == 256:
-                stepped(batch)
-                some.append(batch[accepted // 256 % 256])
-                batch = []
+    common.held = 0
+    for word in matching(mask, value):
+        if not allowed(name, sizes, word):
+            undefined += 1
+            continue
+        accepted += 1
+        reads = text(name, word)
+        expect(words.assembled(reads) == word, reads, "is not assembled to", hex(word))
+        expect(words.named(word) == reads, hex(word), "is not named", reads)
+        batch.append((word, reads))
+        if len(batch) == 256:
+            stepped(batch)
+            some.append(batch[accepted // 256 % 256])
+            batch = []
     if batch:
         stepped(batch)
+    return accepted, undefined, some, common.held
+
+
+def check():
+    accepted, undefined, some = 0, 0, []
+    with multiprocessing.Pool() as pool:
+        for done, not_allowed, chosen, held in pool.imap(row_checked, TABLE):
+            accepted, undefined, some = accepted + done, undefined + not_allowed, some + chosen
+            common.held += held
     expect((accepted, undefined) == (WORDS, UNDEFINED), "accepted and undefined words are counted as", str((accepted, undefined)))
     refused()
     sound(some)

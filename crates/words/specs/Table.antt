@@ -12,7 +12,7 @@ use Rattle.words.specs.declared.Row.{Row}
 use Rattle.words.specs.declared.Form.{Form}
 use Rattle.words.specs.declared.Parameters.{Parameters}
 use Rattle.words.specs.declared.Operation.{Operation}
-use Rattle.words.specs.declared.Operation.the-variants.{Reduce, Segments, Across, Pairs, Widen}
+use Rattle.words.specs.declared.Operation.the-variants.{Reduce, Segments, Across, Pairs, AddLong, SubLong, AddWide, SubWide}
 use Rattle.words.specs.declared.Family.{Family}
 use Rattle.words.specs.declared.Family.the-variants.{Low, Wide}
 use Rattle.words.specs.declared.LowFamily.{LowFamily}
@@ -30,19 +30,6 @@ spaced name = take nameBytes (name ++ bytes " ")
 abbrev pub row : String → ℕ → ℕ → Operation → Bool → Bool → Row
 row name mask value operation signed top = (spaced (bytes name), mask, value, operation, signed, top)
 
--- the operations of the widening family: sums and differences, long and wide
-abbrev pub addLong : Operation
-addLong = Widen false false
-
-abbrev pub subLong : Operation
-subLong = Widen false true
-
-abbrev pub addWide : Operation
-addWide = Widen true false
-
-abbrev pub subWide : Operation
-subWide = Widen true true
-
 abbrev pub table : List Row
 table =
     row "saddv" 0xFF3FE000 0x04002000 Reduce true false
@@ -52,22 +39,22 @@ table =
     ∷ row "uaddlv" 0xBF3FFC00 0x2E303800 Across false false
     ∷ row "sadalp" 0xFF3FE000 0x4404A000 Pairs true false
     ∷ row "uadalp" 0xFF3FE000 0x4405A000 Pairs false false
-    ∷ row "saddlb" 0xFF20FC00 0x45000000 addLong true false
-    ∷ row "saddlt" 0xFF20FC00 0x45000400 addLong true true
-    ∷ row "uaddlb" 0xFF20FC00 0x45000800 addLong false false
-    ∷ row "uaddlt" 0xFF20FC00 0x45000C00 addLong false true
-    ∷ row "ssublb" 0xFF20FC00 0x45001000 subLong true false
-    ∷ row "ssublt" 0xFF20FC00 0x45001400 subLong true true
-    ∷ row "usublb" 0xFF20FC00 0x45001800 subLong false false
-    ∷ row "usublt" 0xFF20FC00 0x45001C00 subLong false true
-    ∷ row "saddwb" 0xFF20FC00 0x45004000 addWide true false
-    ∷ row "saddwt" 0xFF20FC00 0x45004400 addWide true true
-    ∷ row "uaddwb" 0xFF20FC00 0x45004800 addWide false false
-    ∷ row "uaddwt" 0xFF20FC00 0x45004C00 addWide false true
-    ∷ row "ssubwb" 0xFF20FC00 0x45005000 subWide true false
-    ∷ row "ssubwt" 0xFF20FC00 0x45005400 subWide true true
-    ∷ row "usubwb" 0xFF20FC00 0x45005800 subWide false false
-    ∷ row "usubwt" 0xFF20FC00 0x45005C00 subWide false true
+    ∷ row "saddlb" 0xFF20FC00 0x45000000 AddLong true false
+    ∷ row "saddlt" 0xFF20FC00 0x45000400 AddLong true true
+    ∷ row "uaddlb" 0xFF20FC00 0x45000800 AddLong false false
+    ∷ row "uaddlt" 0xFF20FC00 0x45000C00 AddLong false true
+    ∷ row "ssublb" 0xFF20FC00 0x45001000 SubLong true false
+    ∷ row "ssublt" 0xFF20FC00 0x45001400 SubLong true true
+    ∷ row "usublb" 0xFF20FC00 0x45001800 SubLong false false
+    ∷ row "usublt" 0xFF20FC00 0x45001C00 SubLong false true
+    ∷ row "saddwb" 0xFF20FC00 0x45004000 AddWide true false
+    ∷ row "saddwt" 0xFF20FC00 0x45004400 AddWide true true
+    ∷ row "uaddwb" 0xFF20FC00 0x45004800 AddWide false false
+    ∷ row "uaddwt" 0xFF20FC00 0x45004C00 AddWide false true
+    ∷ row "ssubwb" 0xFF20FC00 0x45005000 SubWide true false
+    ∷ row "ssubwt" 0xFF20FC00 0x45005400 SubWide true true
+    ∷ row "usubwb" 0xFF20FC00 0x45005800 SubWide false false
+    ∷ row "usubwt" 0xFF20FC00 0x45005C00 SubWide false true
     ∷ []
 
 -- the number of rows, which is also the place past the last
@@ -94,21 +81,30 @@ familyFor Reduce = Low Reduction
 familyFor Segments = Low Segment
 familyFor Across = Low Long
 familyFor Pairs = Wide Pairwise
-familyFor (Widen wide subtract) = Wide Widening
+familyFor AddLong = Wide Widening
+familyFor SubLong = Wide Widening
+familyFor AddWide = Wide Widening
+familyFor SubWide = Wide Widening
 
 abbrev pub isWide : Operation → Bool
-isWide (Widen wide subtract) = wide
 isWide Reduce = false
 isWide Segments = false
 isWide Across = false
 isWide Pairs = false
+isWide AddLong = false
+isWide SubLong = false
+isWide AddWide = true
+isWide SubWide = true
 
 abbrev pub subtracts : Operation → Bool
-subtracts (Widen wide subtract) = subtract
 subtracts Reduce = false
 subtracts Segments = false
 subtracts Across = false
 subtracts Pairs = false
+subtracts AddLong = false
+subtracts SubLong = true
+subtracts AddWide = false
+subtracts SubWide = true
 
 -- the form of the row at a place, and its family
 abbrev pub parametersWith : Operation → Bool → Bool → Parameters

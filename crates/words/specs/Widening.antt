@@ -3,10 +3,11 @@ use Prim.Native.Nat.{ℕ, _+_, _^_}
 use mathlib.Core.Bool.{Bool, true, false, cond}
 use mathlib.Core.List.{List, [], _∷_, _++_}
 use Rattle.parts.specs.Text.{bytes}
-use Rattle.words.specs.Table.{addLong, subLong, addWide, subWide, parametersWith}
+use Rattle.words.specs.Table.{parametersWith}
 use Rattle.words.specs.declared.Row.{Row}
 use Rattle.words.specs.declared.Parameters.{Parameters}
 use Rattle.words.specs.declared.Operation.{Operation}
+use Rattle.words.specs.declared.Operation.the-variants.{AddLong, SubLong, AddWide, SubWide}
 
 -- the name: s or u, add or sub, l or w, b or t
 abbrev pub wideningName : Parameters → List ℕ
@@ -37,4 +38,4 @@ fourRows operation =
     ∷ []
 
 abbrev pub wideningRows : List Row
-wideningRows = fourRows addLong ++ fourRows subLong ++ fourRows addWide ++ fourRows subWide
+wideningRows = fourRows AddLong ++ fourRows SubLong ++ fourRows AddWide ++ fourRows SubWide

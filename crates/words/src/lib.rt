@@ -43,14 +43,16 @@ pub struct Form {
     pub parameters: Parameters,
 }
 
-// What a row's words do, as the table has it; of those that widen, whether the first source has the full width, and whether the second is
-// subtracted.
+// What a row's words do, as the table has it: a family and, of the widening family, sums and differences, long and wide.
 pub enum Operation {
     Reduce,
     Segments,
     Across,
     Pairs,
-    Widen(bool, bool),
+    AddLong,
+    SubLong,
+    AddWide,
+    SubWide,
 }
 
 // Name, with a space where it has five letters; mask and value, a word being of this row where word AND mask = value; operation; whether
@@ -103,13 +105,13 @@ const ACROSS: Operation = Operation::Across;
 
 const PAIRS: Operation = Operation::Pairs;
 
-const ADD_LONG: Operation = Operation::Widen(false, false);
+const ADD_LONG: Operation = Operation::AddLong;
 
-const SUB_LONG: Operation = Operation::Widen(false, true);
+const SUB_LONG: Operation = Operation::SubLong;
 
-const ADD_WIDE: Operation = Operation::Widen(true, false);
+const ADD_WIDE: Operation = Operation::AddWide;
 
-const SUB_WIDE: Operation = Operation::Widen(true, true);
+const SUB_WIDE: Operation = Operation::SubWide;
 
 // The families of the operations.
 const REDUCTION: Family = Family::Low(LowFamily::Reduction);
@@ -194,7 +196,10 @@ fn family_for(operation: Operation) -> Family
         Operation::Segments => SEGMENT,
         Operation::Across => LONG,
         Operation::Pairs => PAIRWISE,
-        Operation::Widen(_, _) => WIDENING,
+        Operation::AddLong => WIDENING,
+        Operation::SubLong => WIDENING,
+        Operation::AddWide => WIDENING,
+        Operation::SubWide => WIDENING,
     }
 }
 
@@ -203,11 +208,14 @@ fn is_wide(operation: Operation) -> bool
     ensures { λ r. ⌜ r ≡ isWide operation ⌝ }
 {
     match operation {
-        Operation::Widen(wide, _) => wide,
         Operation::Reduce => false,
         Operation::Segments => false,
         Operation::Across => false,
         Operation::Pairs => false,
+        Operation::AddLong => false,
+        Operation::SubLong => false,
+        Operation::AddWide => true,
+        Operation::SubWide => true,
     }
 }
 
@@ -216,11 +224,14 @@ fn subtracts(operation: Operation) -> bool
     ensures { λ r. ⌜ r ≡ subtracts operation ⌝ }
 {
     match operation {
-        Operation::Widen(_, subtract) => subtract,
         Operation::Reduce => false,
         Operation::Segments => false,
         Operation::Across => false,
         Operation::Pairs => false,
+        Operation::AddLong => false,
+        Operation::SubLong => true,
+        Operation::AddWide => false,
+        Operation::SubWide => true,
     }
 }
 
