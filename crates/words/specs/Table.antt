@@ -10,7 +10,6 @@ use Rattle.parts.specs.Text.{bytes}
 use Rattle.words.specs.Digits.{digitsAnd, wordDigits}
 use Rattle.words.specs.declared.Row.{Row}
 use Rattle.words.specs.declared.Form.{Form}
-use Rattle.words.specs.declared.Parameters.{Parameters}
 use Rattle.words.specs.declared.Operation.{Operation}
 use Rattle.words.specs.declared.Operation.the-variants.{Reduce, Segments, Across, Pairs, AddLong, SubLong, AddWide, SubWide}
 use Rattle.words.specs.declared.Family.{Family}
@@ -75,46 +74,28 @@ rowMask i = rowAt i .1
 abbrev pub rowValue : ℕ → ℕ
 rowValue i = rowAt i .2
 
--- the family of an operation, whether its first source has the full width, and whether its second source is subtracted
-abbrev pub familyFor : Operation → Family
-familyFor Reduce = Low Reduction
-familyFor Segments = Low Segment
-familyFor Across = Low Long
-familyFor Pairs = Wide Pairwise
-familyFor AddLong = Wide Widening
-familyFor SubLong = Wide Widening
-familyFor AddWide = Wide Widening
-familyFor SubWide = Wide Widening
+-- the form of a family, by whether its first source has the full width, whether its second source is subtracted, and its elements
+abbrev pub formWith : Family → Bool → Bool → Bool → Bool → Form
+formWith family wide subtract signed top =
+    record { family = family; parameters = record { signed = signed; top = top; wide = wide; subtract = subtract } }
 
-abbrev pub isWide : Operation → Bool
-isWide Reduce = false
-isWide Segments = false
-isWide Across = false
-isWide Pairs = false
-isWide AddLong = false
-isWide SubLong = false
-isWide AddWide = true
-isWide SubWide = true
-
-abbrev pub subtracts : Operation → Bool
-subtracts Reduce = false
-subtracts Segments = false
-subtracts Across = false
-subtracts Pairs = false
-subtracts AddLong = false
-subtracts SubLong = true
-subtracts AddWide = false
-subtracts SubWide = true
+-- the form of an operation over elements
+abbrev pub formFor : Operation → Bool → Bool → Form
+formFor Reduce = formWith (Low Reduction) false false
+formFor Segments = formWith (Low Segment) false false
+formFor Across = formWith (Low Long) false false
+formFor Pairs = formWith (Wide Pairwise) false false
+formFor AddLong = formWith (Wide Widening) false false
+formFor SubLong = formWith (Wide Widening) false true
+formFor AddWide = formWith (Wide Widening) true false
+formFor SubWide = formWith (Wide Widening) true true
 
 -- the form of the row at a place, and its family
-abbrev pub parametersWith : Operation → Bool → Bool → Parameters
-parametersWith operation signed top = record { signed = signed; top = top; wide = isWide operation; subtract = subtracts operation }
-
 abbrev pub formOf : ℕ → Form
-formOf i = record { family = familyFor (rowAt i .3); parameters = parametersWith (rowAt i .3) (rowAt i .4) (rowAt i .5) }
+formOf i = formFor (rowAt i .3) (rowAt i .4) (rowAt i .5)
 
 abbrev pub familyOf : ℕ → Family
-familyOf i = familyFor (rowAt i .3)
+familyOf i = formOf i .family
 
 -- word AND mask = value
 unfoldable pub matches : Row → ℕ → Bool

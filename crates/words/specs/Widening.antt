@@ -3,7 +3,7 @@ use Prim.Native.Nat.{ℕ, _+_, _^_}
 use mathlib.Core.Bool.{Bool, true, false, cond}
 use mathlib.Core.List.{List, [], _∷_, _++_}
 use Rattle.parts.specs.Text.{bytes}
-use Rattle.words.specs.Table.{parametersWith}
+use Rattle.words.specs.Table.{formFor}
 use Rattle.words.specs.declared.Row.{Row}
 use Rattle.words.specs.declared.Parameters.{Parameters}
 use Rattle.words.specs.declared.Operation.{Operation}
@@ -25,7 +25,7 @@ wideningValue ps =
 -- the line of an operation over elements
 abbrev pub wideningRow : Operation → Bool → Bool → Row
 wideningRow operation signed top =
-    let ps = parametersWith operation signed top in
+    let ps = formFor operation signed top .parameters in
     (wideningName ps, 0xFF20FC00, wideningValue ps, operation, signed, top)
 
 -- the four lines of an operation, and those of all four, in the order of the values

@@ -3,7 +3,7 @@ use machine::refusal;
 ghost use mathlib.Core.Path.{_≡_};
 ghost use Prim.Native.Nat.{_<_, _^_};
 ghost use Rattle.words.specs.Digits.{field, wordDigits};
-ghost use Rattle.words.specs.Table.{table, rowAt, matches, rowOf, familyFor, isWide, subtracts, familyOf, formOf, within, mostReduced, allowsLong, allowsLow, allows};
+ghost use Rattle.words.specs.Table.{table, rowAt, matches, rowOf, formWith, formFor, formOf, familyOf, within, mostReduced, allowsLong, allowsLow, allows};
 ghost use Rattle.words.specs.Field.{sizeDigits, governingDigits, secondDigits, qDigits, Counted};
 ghost use Rattle.words.specs.Decode.{decoded, numberOf, fieldsAt};
 
@@ -124,7 +124,7 @@ const PAIRWISE: Family = Family::Wide(WideFamily::Pairwise);
 
 const WIDENING: Family = Family::Wide(WideFamily::Widening);
 
-// The elements' sign, and which of them are taken.
+// The elements' sign, and which are taken.
 const SIGNED: bool = true;
 
 const UNSIGNED: bool = false;
@@ -170,8 +170,7 @@ pub fn table() -> [Row; ROWS]
     TABLE
 }
 
-// The row at a place: the last that is taken on the way down from the last one to it. So a compiler sees each place as a constant, and
-// no table is laid out.
+// The row at a place, sought on the way down from the last, so that a compiler sees each place as a constant and lays no table out.
 pub fn row_at(i: usize) -> Row
     ensures { λ r. ⌜ r ≡ rowAt i ⌝ }
 {
@@ -187,51 +186,32 @@ pub fn row_at(i: usize) -> Row
     row
 }
 
-// The family of an operation.
-fn family_for(operation: Operation) -> Family
-    ensures { λ r. ⌜ r ≡ familyFor operation ⌝ }
+// The form of a family, by whether it is wide, whether it subtracts, and its elements.
+fn form_with(family: Family, wide: bool, subtract: bool, signed: bool, top: bool) -> Form
+    ensures { λ r. ⌜ r ≡ formWith family wide subtract signed top ⌝ }
 {
-    match operation {
-        Operation::Reduce => REDUCTION,
-        Operation::Segments => SEGMENT,
-        Operation::Across => LONG,
-        Operation::Pairs => PAIRWISE,
-        Operation::AddLong => WIDENING,
-        Operation::SubLong => WIDENING,
-        Operation::AddWide => WIDENING,
-        Operation::SubWide => WIDENING,
-    }
+    let parameters = Parameters {
+        signed,
+        top,
+        wide,
+        subtract,
+    };
+    Form { family, parameters }
 }
 
-// Whether an operation's first source has the full width.
-fn is_wide(operation: Operation) -> bool
-    ensures { λ r. ⌜ r ≡ isWide operation ⌝ }
+// The form of an operation over elements.
+fn form_for(operation: Operation, signed: bool, top: bool) -> Form
+    ensures { λ r. ⌜ r ≡ formFor operation signed top ⌝ }
 {
     match operation {
-        Operation::Reduce => false,
-        Operation::Segments => false,
-        Operation::Across => false,
-        Operation::Pairs => false,
-        Operation::AddLong => false,
-        Operation::SubLong => false,
-        Operation::AddWide => true,
-        Operation::SubWide => true,
-    }
-}
-
-// Whether an operation subtracts its second source.
-fn subtracts(operation: Operation) -> bool
-    ensures { λ r. ⌜ r ≡ subtracts operation ⌝ }
-{
-    match operation {
-        Operation::Reduce => false,
-        Operation::Segments => false,
-        Operation::Across => false,
-        Operation::Pairs => false,
-        Operation::AddLong => false,
-        Operation::SubLong => true,
-        Operation::AddWide => false,
-        Operation::SubWide => true,
+        Operation::Reduce => form_with(REDUCTION, false, false, signed, top),
+        Operation::Segments => form_with(SEGMENT, false, false, signed, top),
+        Operation::Across => form_with(LONG, false, false, signed, top),
+        Operation::Pairs => form_with(PAIRWISE, false, false, signed, top),
+        Operation::AddLong => form_with(WIDENING, false, false, signed, top),
+        Operation::SubLong => form_with(WIDENING, false, true, signed, top),
+        Operation::AddWide => form_with(WIDENING, true, false, signed, top),
+        Operation::SubWide => form_with(WIDENING, true, true, signed, top),
     }
 }
 
@@ -241,23 +221,14 @@ pub fn form_of(i: usize) -> Form
 {
     let row = row_at(i);
     let operation = row.3;
-    let family = family_for(operation);
-    let parameters = Parameters {
-        signed: row.4,
-        top: row.5,
-        wide: is_wide(operation),
-        subtract: subtracts(operation),
-    };
-    Form { family, parameters }
+    form_for(operation, row.4, row.5)
 }
 
 // The family of the row at a place.
 pub fn family_of(i: usize) -> Family
     ensures { λ r. ⌜ r ≡ familyOf i ⌝ }
 {
-    let row = row_at(i);
-    let operation = row.3;
-    family_for(operation)
+    form_of(i).family
 }
 
 // Whether a word is of a row.

@@ -1,11 +1,13 @@
--- `family_of` meets its contract: the family is that of the row's operation.
+-- `family_of` meets its contract: the family is that of the row's form.
 -- Assumes nothing.
 use borrow.Author.Needs.{needs}
+use mathlib.Core.Path.{ap}
+use Rattle.words.specs.declared.Form.{Form}
 use Rattle.words.proofs.family_of.Statement.{statement}
 use Rattle.words.proofs.family_of.Tie as tie
 
 returns : tie.Need-returns
-returns c = cc
+returns c = ap (λ (form : Form). form .family) (c .form-of .ensures)
 
 pub family-of-spec : {M : Type 1} → statement M
-family-of-spec = tie.close (tie.spec (λ c κs. search needs) (λ c κs. search needs) returns)
+family-of-spec = tie.close (tie.spec (λ c κs. search needs) returns)

@@ -1,11 +1,14 @@
 -- `form_of` meets its contract: the form is that of the row's operation and elements.
 -- Assumes nothing.
 use borrow.Author.Needs.{needs}
+use mathlib.Core.Path.{_∙_, ap}
+use Rattle.words.specs.Table.{formFor}
+use Rattle.words.specs.declared.Row.{Row}
 use Rattle.words.proofs.form_of.Statement.{statement}
 use Rattle.words.proofs.form_of.Tie as tie
 
 returns : tie.Need-returns
-returns c = cc
+returns c = c .form-for .ensures ∙ ap (λ (r : Row). formFor (r .3) (r .4) (r .5)) (c .before .row-at .ensures)
 
 pub form-of-spec : {M : Type 1} → statement M
-form-of-spec = tie.close (tie.spec (λ c κs. search needs) (λ c κs. search needs) (λ c κs. search needs) (λ c κs. search needs) returns)
+form-of-spec = tie.close (tie.spec (λ c κs. search needs) (λ c κs. search needs) returns)

@@ -1,0 +1,31 @@
+-- `form_for` meets its contract: in each arm the operation is the arm's.
+-- Assumes nothing.
+use borrow.Author.Needs.{needs}
+use mathlib.Core.Path.{_≡_, sym, _∙_, ap}
+use mathlib.Core.Bool.{Bool}
+use Rattle.words.specs.Table.{formFor}
+use Rattle.words.specs.declared.Form.{Form}
+use Rattle.words.specs.declared.Operation.{Operation}
+use Rattle.words.proofs.form_for.Statement.{statement}
+use Rattle.words.proofs.form_for.Tie as tie
+
+-- the form of the operation that an arm is for
+told : (operation arm : Operation) (signed top : Bool) (form : Form) → operation ≡ arm → form ≡ formFor arm signed top → form ≡ formFor operation signed top
+told operation arm signed top form is e = e ∙ sym (ap (λ (o : Operation). formFor o signed top) is)
+
+-- each of the eight arms tells its operation and asks nothing of its call
+pub form-for-spec : {M : Type 1} → statement M
+form-for-spec =
+    let three = tie.spec (λ c. search needs) (λ c κs. search needs) (λ c. search needs) (λ c κs. search needs) (λ c. search needs) (λ c κs. search needs) in
+    let six = three (λ c. search needs) (λ c κs. search needs) (λ c. search needs) (λ c κs. search needs) (λ c. search needs) (λ c κs. search needs) in
+    let eight = six (λ c. search needs) (λ c κs. search needs) (λ c. search needs) (λ c κs. search needs) in
+    tie.close
+    (eight
+    (λ c. told _ _ _ _ _ (c .before .enum-told .given .1) (c .form-with .ensures))
+    (λ c. told _ _ _ _ _ (c .before .enum-told2 .given .1) (c .form-with2 .ensures))
+    (λ c. told _ _ _ _ _ (c .before .enum-told3 .given .1) (c .form-with3 .ensures))
+    (λ c. told _ _ _ _ _ (c .before .enum-told4 .given .1) (c .form-with4 .ensures))
+    (λ c. told _ _ _ _ _ (c .before .enum-told5 .given .1) (c .form-with5 .ensures))
+    (λ c. told _ _ _ _ _ (c .before .enum-told6 .given .1) (c .form-with6 .ensures))
+    (λ c. told _ _ _ _ _ (c .before .enum-told7 .given .1) (c .form-with7 .ensures))
+    (λ c. told _ _ _ _ _ (c .before .enum-told8 .given .1) (c .form-with8 .ensures)))
