@@ -2,9 +2,8 @@
 -- lies within the destination.
 -- Assumes nothing.
 use Prim.Native.Nat.{ℕ, _+_, _*_, _≤_, _<_}
-use mathlib.Core.Path.{_≡_, _∙_, ap}
+use mathlib.Core.Path.{_≡_}
 use mathlib.Core.List.{List, []}
-use native.Mathlib.Omega.{arith}
 use Rattle.machine.specs.Size.{vectors, vectorBytes}
 use Rattle.parts.specs.Number.{withNumber}
 use Rattle.registers.specs.Register.{registerAt, vectorOf, predicateOf, InFile}

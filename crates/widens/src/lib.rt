@@ -66,31 +66,41 @@ fn write_widening(
     write_lane(k, z, f.d, w, e, number);
 }
 
-// Writes every lane of a pairwise accumulate in place: what a lane is made of lies in the same lane of each register, so no lane that is
-// written is read again. The parameters are its own copy, so that a compiler need not look at them in every lane.
-fn pairwise_lanes(parameters: Parameters, w: usize, f: Fields, k: usize, z: &mut [u8], p: &[u8])
-    requires { ⌜ WideLanes Pairwise parameters w f k (state (now z) (now p)) ⌝ }
-    ensures { λ _. ⌜ now (z .exit) ≡ executed f k (state (now (z .entry)) (now (p .entry))) .z ⌝ }
+// Writes lane e of a word, from the registers as they stand.
+fn write_turn(
+    wide: WideFamily,
+    parameters: Parameters,
+    w: usize,
+    f: Fields,
+    k: usize,
+    z: &mut [u8],
+    p: &[u8],
+    e: usize,
+)
+    requires { ⌜ WideTurn wide parameters w e f k (state (now z) (now p)) ⌝ }
+    ensures { λ _. ⌜ now (z .exit) ≡ laneWritten f k e (state (now (z .entry)) (now (p .entry))) ⌝ }
 {
-    let own = Parameters {
-        signed: parameters.signed,
-        top: parameters.top,
-        wide: parameters.wide,
-        subtract: parameters.subtract,
-    };
-    let count = registers::register_bytes(k, Kind::Vector) / w;
-    let mut e = 0;
-    while e < count {
-        write_pairwise(own, w, f, k, z, p, e);
-        e += 1;
+    match wide {
+        WideFamily::Pairwise => write_pairwise(parameters, w, f, k, z, p, e),
+        WideFamily::Widening => write_widening(parameters, w, f, k, z, p, e),
     }
 }
 
-// Writes every lane of a widening word in place, as above.
-fn widening_lanes(parameters: Parameters, w: usize, f: Fields, k: usize, z: &mut [u8], p: &[u8])
-    requires { ⌜ WideLanes Widening parameters w f k (state (now z) (now p)) ⌝ }
+// Writes every lane in place: what a lane is made of lies in the same lane of each register, so no lane that is written is read again. The
+// family and the parameters are its own copies, so that a compiler need not look at them in every lane.
+fn write_turns(
+    wide: WideFamily,
+    parameters: Parameters,
+    w: usize,
+    f: Fields,
+    k: usize,
+    z: &mut [u8],
+    p: &[u8],
+)
+    requires { ⌜ WideLanes wide parameters w f k (state (now z) (now p)) ⌝ }
     ensures { λ _. ⌜ now (z .exit) ≡ executed f k (state (now (z .entry)) (now (p .entry))) .z ⌝ }
 {
+    let family = wide;
     let own = Parameters {
         signed: parameters.signed,
         top: parameters.top,
@@ -100,7 +110,7 @@ fn widening_lanes(parameters: Parameters, w: usize, f: Fields, k: usize, z: &mut
     let count = registers::register_bytes(k, Kind::Vector) / w;
     let mut e = 0;
     while e < count {
-        write_widening(own, w, f, k, z, p, e);
+        write_turn(family, own, w, f, k, z, p, e);
         e += 1;
     }
 }
@@ -120,14 +130,14 @@ pub fn write_lanes(
     let w = lanes::width_of(f.size);
     match wide {
         WideFamily::Pairwise => match w {
-            2 => pairwise_lanes(parameters, 2, f, k, z, p),
-            4 => pairwise_lanes(parameters, 4, f, k, z, p),
-            _ => pairwise_lanes(parameters, 8, f, k, z, p),
+            2 => write_turns(WideFamily::Pairwise, parameters, 2, f, k, z, p),
+            4 => write_turns(WideFamily::Pairwise, parameters, 4, f, k, z, p),
+            _ => write_turns(WideFamily::Pairwise, parameters, 8, f, k, z, p),
         },
         WideFamily::Widening => match w {
-            2 => widening_lanes(parameters, 2, f, k, z, p),
-            4 => widening_lanes(parameters, 4, f, k, z, p),
-            _ => widening_lanes(parameters, 8, f, k, z, p),
+            2 => write_turns(WideFamily::Widening, parameters, 2, f, k, z, p),
+            4 => write_turns(WideFamily::Widening, parameters, 4, f, k, z, p),
+            _ => write_turns(WideFamily::Widening, parameters, 8, f, k, z, p),
         },
     }
 }

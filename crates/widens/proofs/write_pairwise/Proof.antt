@@ -2,8 +2,7 @@
 -- within the destination.
 -- Assumes nothing.
 use borrow.Author.Needs.{needs}
-use mathlib.Core.Path.{_≡_, sym, _∙_, ap}
-use native.Mathlib.Omega.{arith}
+use mathlib.Core.Path.{_∙_, ap}
 use Rattle.lanes.specs.Integer.{residue}
 use Rattle.words.specs.declared.WideFamily.the-variants.{Pairwise}
 use Rattle.meaning.proofs.Sizes.{governing-in, vector-in}

@@ -1,8 +1,7 @@
 -- `write_widening` meets its contract: both sources hold lane e, its sum is that of what feeds it, and its place lies within the destination.
 -- Assumes nothing.
 use borrow.Author.Needs.{needs}
-use mathlib.Core.Path.{_≡_, sym, _∙_, ap}
-use native.Mathlib.Omega.{arith}
+use mathlib.Core.Path.{_∙_, ap}
 use Rattle.lanes.specs.Integer.{residue}
 use Rattle.words.specs.declared.WideFamily.the-variants.{Widening}
 use Rattle.meaning.proofs.Sizes.{vector-in, second-most}

@@ -1,20 +1,19 @@
--- `widening_lanes` meets its contract: after e turns the first e lanes of the destination are written and all else is as it was.
+-- `write_turns` meets its contract: after e turns the first e lanes of the destination are written and all else is as it was.
 -- Assumes nothing.
-use borrow.Author.Needs.{needs}
 use Prim.Native.Nat.{_-_, _/_, _≤_}
 use mathlib.Core.Path.{_≡_, _∙_}
 use native.Mathlib.Omega.{arith}
 use Rattle.registers.specs.State.{state}
 use Rattle.meaning.proofs.Sizes.{k-most}
 use Rattle.widens.proofs.InPlace.{fileAfter, width-some, few-turns, not-begun, turn-ahead, turn-done, same-size, all-done}
-use Rattle.widens.proofs.widening_lanes.Statement.{statement}
-use Rattle.widens.proofs.widening_lanes.Tie as tie
+use Rattle.widens.proofs.write_turns.Statement.{statement}
+use Rattle.widens.proofs.write_turns.Tie as tie
 
 abbrev Inv-loop : tie.InvT-loop
-Inv-loop w f k z₀ p own count e₀ z e = (e ≤ count) × (z ≡ fileAfter f k (state z₀ p) e)
+Inv-loop w f k z₀ p family own count e₀ z e = (e ≤ count) × (z ≡ fileAfter f k (state z₀ p) e)
 
 abbrev μ-loop : tie.MeasureT-loop
-μ-loop w f k z₀ p own count e₀ z e = count - e
+μ-loop w f k z₀ p family own count e₀ z e = count - e
 
 -- where the word stands, before the loop, and where a turn begins
 abbrev begin : tie.After-register-bytes Inv-loop μ-loop → tie.Start Inv-loop μ-loop
@@ -32,8 +31,8 @@ div-count c = width-some _ _ _ _ _ _ _ (begin c .pre) (c .register-bytes .ensure
 loop-holds : tie.Need-loop-holds Inv-loop μ-loop
 loop-holds c = (omega arith, not-begun _ _ _ _ _ _ _ (begin c .pre) (c .register-bytes .ensures))
 
-write-widening-requires : tie.Need-write-widening-requires Inv-loop μ-loop
-write-widening-requires c κs =
+write-turn-requires : tie.Need-write-turn-requires Inv-loop μ-loop
+write-turn-requires c κs =
     let l = c .before in
     let r = l .before .before in
     turn-ahead _ _ _ _ _ _ _ (begin r .pre) (r .register-bytes .ensures) _ _ (l .before .loop .inv .1) (l .loop-test .taken)
@@ -49,7 +48,7 @@ loop-again c =
     let l = turn (c .before) in
     let r = l .before .before in (
       omega (arith, l .loop-test .taken),
-      c .before .before .write-widening .ensures
+      c .before .before .write-turn .ensures
           ∙ turn-done _ _ _ _ _ _ _ (begin r .pre) (r .register-bytes .ensures) _ _ (l .before .loop .inv .1) (l .loop-test .taken),
     )
 
@@ -64,8 +63,8 @@ returns c =
     let end : c .before .loop .e ≡ r .register-bytes .result / begin r .args .w = omega (arith, c .loop-test .left, c .before .loop .inv .0) in
     all-done _ _ _ _ _ _ _ (begin r .pre) (r .register-bytes .ensures) _ _ (c .before .loop .inv .1) end
 
-pub widening-lanes-spec : {M : Type 1} → statement M
-widening-lanes-spec =
+pub write-turns-spec : {M : Type 1} → statement M
+write-turns-spec =
     tie.close
     (tie.spec
     Inv-loop
@@ -73,7 +72,7 @@ widening-lanes-spec =
     register-bytes-requires
     div-count
     loop-holds
-    write-widening-requires
+    write-turn-requires
     add-e
     (λ c. omega arith)
     loop-again
