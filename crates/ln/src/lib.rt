@@ -9,17 +9,14 @@ ghost use lib.ListN.{length};
 ghost use Rattle.parts.specs.Part.{withPart, laid};
 ghost use Rattle.machine.specs.Size.{segmentBytes};
 ghost use Rattle.registers.specs.State.{state};
-ghost use Rattle.words.specs.Decode.{decoded, noFields};
+ghost use Rattle.words.specs.Decode.{noFields};
 ghost use Rattle.names.specs.Named.{Named};
 ghost use Rattle.assembles.specs.Assembled.{Assembled};
-ghost use Rattle.programs.specs.Word.{nextWord};
-ghost use Rattle.sums.specs.Calls.{subtotalAnswer};
 ghost use Rattle.journal.specs.Calls.{Freshened, Stepped, Backed};
-ghost use Rattle.session.specs.Layout.{sessionOf};
 ghost use Rattle.lines.specs.Line.{LineWritten};
 ghost use Rattle.ln.specs.Posts.{WordDecoded, WordRead, SessionRead, RegisterPlaced, Subtotalled, PositionTold};
 ghost use Rattle.ln.specs.Panel.{panelBytes, joined, PanelWritten};
-ghost use Rattle.ln.specs.Outside.{isSet, answerOut, answerIn, decodedOut, fieldsOut, flagOf, kindOf, placeFor, sessionOut, wordOut};
+ghost use Rattle.ln.specs.Outside.{answerIn, fieldsOut, flagOf, placeFor};
 
 mod held;
 

@@ -1,7 +1,7 @@
 -- The marked cases M1 to M12: a word, a length, what some registers and predicates hold, and what must come of it.
 use Prim.Native.Nat.{ℕ, zero, suc}
 use mathlib.Core.Bool.{cond}
-use mathlib.Core.List.{List, [], _∷_, _++_, map}
+use mathlib.Core.List.{List, [], _∷_, _++_}
 use lib.Dec.{eqb}
 use lib.ListN.{take, replicate}
 use Rattle.machine.specs.Size.{vectors, predicates, vectorBytes, predicateBytes}

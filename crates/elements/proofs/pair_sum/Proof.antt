@@ -3,7 +3,6 @@
 use borrow.Author.Needs.{needs}
 use Prim.Native.Nat.{ℕ, _+_, _*_, _/_, _^_, _%_}
 use mathlib.Core.Path.{sym, _∙_, ap₂}
-use native.Mathlib.Omega.{arith}
 use Rattle.lanes.specs.Sum.{element}
 use Rattle.lanes.proofs.Sums.{residue-two}
 use Rattle.elements.proofs.pair_sum.Statement.{statement}

@@ -1,7 +1,7 @@
 -- `sum_few` meets its contract: no lane adds up to zero, one lane to what it adds, and the second adds one lane more.
 -- Assumes nothing.
 use borrow.Author.Needs.{needs}
-use Prim.Native.Nat.{ℕ, _+_, _*_, _%_, _^_, _≤_}
+use Prim.Native.Nat.{ℕ, _+_, _%_, _^_}
 use mathlib.Core.Path.{_≡_, sym, _∙_, ap, ap₂}
 use native.Mathlib.Omega.{arith}
 use Rattle.machine.proofs.Places.{place-within}
