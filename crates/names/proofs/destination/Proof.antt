@@ -15,7 +15,7 @@ returns-2 : tie.Need-returns-2
 returns-2 c = let l = c .before in rw (low (l .before .before .before) .family .given .1, l .before .enum-told2 .given .1, ← l .lanes-of .ensures) (c .register2 .ensures)
 
 returns-3 : tie.Need-returns-3
-returns-3 c = cc
+returns-3 c = let l = c .before in rw (low (l .before .before .before) .family .given .1, l .before .enum-told3 .given .1, ← l .letter-of .ensures) (c .register3 .ensures)
 
 returns-4 : tie.Need-returns-4
 returns-4 c = rw (c .before .enum-told4 .given .1) (c .register4 .ensures)
