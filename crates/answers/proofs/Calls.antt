@@ -15,11 +15,11 @@ use Rattle.registers.proofs.Places.{register-inside}
 use Rattle.lanes.specs.Lane.{widthOf, lane, fromLanes}
 use Rattle.lanes.specs.Integer.{residue}
 use Rattle.lanes.specs.Sum.{each, activeElement, total}
-use Rattle.words.specs.Table.{formOf, familyOf}
+use Rattle.rows.specs.Table.{formOf, familyOf}
 use Rattle.words.proofs.Decoding.{governing-below}
 use Rattle.words.specs.declared.Fields.{Fields}
-use Rattle.words.specs.declared.Family.the-variants.{Low}
-use Rattle.words.specs.declared.LowFamily.the-variants.{Reduction, Segment}
+use Rattle.rows.specs.declared.Family.the-variants.{Low}
+use Rattle.rows.specs.declared.LowFamily.the-variants.{Reduction, Segment}
 use Rattle.sums.specs.Sums.{laneSum}
 use Rattle.sums.specs.Panel.{perSegment, rowsSum, panelOf, noPanel}
 use Rattle.sums.specs.Calls.{panelRefused, panelAnswer, subtotalAnswer}

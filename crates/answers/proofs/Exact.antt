@@ -22,14 +22,14 @@ use Rattle.lanes.specs.Sum.{each, element, counted}
 use Rattle.lanes.proofs.Residues.{residue-lt}
 use Rattle.lanes.proofs.Sums.{Within, AllWithin, within-counted, within-more, within-signed, sum-is-exact, length-each}
 use Rattle.lanes.proofs.Written.{read-lane}
-use Rattle.words.specs.Table.{formOf, familyOf}
+use Rattle.rows.specs.Table.{formOf, familyOf}
 use Rattle.words.proofs.Decoding.{q-below}
 use Rattle.words.specs.declared.Fields.{Fields}
-use Rattle.words.specs.declared.Parameters.{Parameters}
-use Rattle.words.specs.declared.Family.{Family}
-use Rattle.words.specs.declared.Family.the-variants.{Low, Wide}
-use Rattle.words.specs.declared.LowFamily.the-variants.{Reduction, Segment, Long}
-use Rattle.words.specs.declared.WideFamily.the-variants.{Pairwise, Widening}
+use Rattle.rows.specs.declared.Parameters.{Parameters}
+use Rattle.rows.specs.declared.Family.{Family}
+use Rattle.rows.specs.declared.Family.the-variants.{Low, Wide}
+use Rattle.rows.specs.declared.LowFamily.the-variants.{Reduction, Segment, Long}
+use Rattle.rows.specs.declared.WideFamily.the-variants.{Pairwise, Widening}
 use Rattle.sums.proofs.Accepted.{width-legal}
 use Rattle.meaning.specs.Terms.{Operands, Source, Operand1, Operand2, Old, operandOf, Term, subtractedWhere, added, sumOf, governedTerm, freeTerm, dataBytes, halfTerm, firstTerm}
 use Rattle.meaning.specs.Meaning.{familyTerms, widthAfter}

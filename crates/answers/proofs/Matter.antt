@@ -21,13 +21,13 @@ use Rattle.lanes.specs.Integer.{residue}
 use Rattle.lanes.specs.Sum.{each, element}
 use Rattle.lanes.proofs.Sums.{same-counted}
 use Rattle.lanes.proofs.Written.{same-lanes}
-use Rattle.words.specs.Table.{formOf, familyOf}
+use Rattle.rows.specs.Table.{formOf, familyOf}
 use Rattle.words.specs.declared.Fields.{Fields}
-use Rattle.words.specs.declared.Parameters.{Parameters}
-use Rattle.words.specs.declared.Family.{Family}
-use Rattle.words.specs.declared.Family.the-variants.{Low, Wide}
-use Rattle.words.specs.declared.LowFamily.the-variants.{Reduction, Segment, Long}
-use Rattle.words.specs.declared.WideFamily.the-variants.{Pairwise, Widening}
+use Rattle.rows.specs.declared.Parameters.{Parameters}
+use Rattle.rows.specs.declared.Family.{Family}
+use Rattle.rows.specs.declared.Family.the-variants.{Low, Wide}
+use Rattle.rows.specs.declared.LowFamily.the-variants.{Reduction, Segment, Long}
+use Rattle.rows.specs.declared.WideFamily.the-variants.{Pairwise, Widening}
 use Rattle.sums.specs.Sums.{Governed, AgreeAt}
 use Rattle.sums.specs.Panel.{perSegment, FillsSegment}
 use Rattle.sums.proofs.Accepted.{width-legal}

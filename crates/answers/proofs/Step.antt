@@ -14,12 +14,12 @@ use Rattle.registers.specs.State.{State, read}
 use Rattle.registers.specs.declared.Kind.the-variants.{Vector}
 use Rattle.lanes.specs.Lane.{widthOf, lane, fromLanes}
 use Rattle.lanes.specs.Integer.{integer, residue}
-use Rattle.words.specs.Table.{formOf, familyOf}
+use Rattle.rows.specs.Table.{formOf, familyOf}
 use Rattle.words.specs.declared.Fields.{Fields}
-use Rattle.words.specs.declared.Parameters.{Parameters}
-use Rattle.words.specs.declared.Family.the-variants.{Low, Wide}
-use Rattle.words.specs.declared.LowFamily.the-variants.{Reduction, Segment}
-use Rattle.words.specs.declared.WideFamily.the-variants.{Pairwise, Widening}
+use Rattle.rows.specs.declared.Parameters.{Parameters}
+use Rattle.rows.specs.declared.Family.the-variants.{Low, Wide}
+use Rattle.rows.specs.declared.LowFamily.the-variants.{Reduction, Segment}
+use Rattle.rows.specs.declared.WideFamily.the-variants.{Pairwise, Widening}
 use Rattle.sums.specs.Panel.{perSegment, rowsSum}
 use Rattle.sums.specs.Calls.{panelAnswer, subtotalAnswer}
 use Rattle.meaning.specs.Terms.{negatedWhere}

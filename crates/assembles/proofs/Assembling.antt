@@ -10,13 +10,13 @@ use lib.ListN.{length, take}
 use lib.Pow.{pow-pos}
 use Rattle.machine.specs.Refusal.{DONE, TEXT}
 use Rattle.machine.specs.declared.Answer.{Answer}
-use Rattle.words.specs.Digits.{wordDigits}
+use Rattle.rows.specs.Digits.{wordDigits}
 use Rattle.words.specs.Decode.{decoded, numberOf}
 use Rattle.words.specs.Encode.{encoded, InRange}
 use Rattle.words.specs.declared.Fields.{Fields}
 use Rattle.words.specs.declared.Decoded.{Decoded}
 use Rattle.words.specs.declared.Decoded.the-variants.{Unknown, Undefined, Word}
-use Rattle.words.specs.Table.{familyOf}
+use Rattle.rows.specs.Table.{familyOf}
 use Rattle.words.proofs.Decoding.{governing-below, second-below, q-below}
 use Rattle.words.proofs.Encoding.{decoded-in-range, encoded-decoded}
 use Rattle.names.specs.Text.{textOf}

@@ -13,15 +13,16 @@ use Rattle.parts.specs.Part.{both}
 use Rattle.parts.specs.Text.{bytes}
 use Rattle.parts.proofs.Same.{both-left, both-right}
 use Rattle.machine.specs.Size.{sizes}
-use Rattle.words.specs.Table.{nameBytes, rows, rowAt, familyOf, formOf, allowsFamily}
+use Rattle.rows.specs.Table.{nameBytes, rows, rowAt, familyOf, formOf}
+use Rattle.words.specs.Sizes.{allowsFamily}
 use Rattle.words.specs.Field.{registerDigits, governingDigits, secondDigits, qDigits}
 use Rattle.words.specs.Encode.{InRange}
-use Rattle.words.specs.declared.Family.{Family}
-use Rattle.words.specs.declared.Family.the-variants.{Low, Wide}
-use Rattle.words.specs.declared.LowFamily.the-variants.{Reduction, Segment, Long}
-use Rattle.words.specs.declared.WideFamily.the-variants.{Pairwise, Widening}
+use Rattle.rows.specs.declared.Family.{Family}
+use Rattle.rows.specs.declared.Family.the-variants.{Low, Wide}
+use Rattle.rows.specs.declared.LowFamily.the-variants.{Reduction, Segment, Long}
+use Rattle.rows.specs.declared.WideFamily.the-variants.{Pairwise, Widening}
 use Rattle.words.specs.declared.Fields.{Fields}
-use Rattle.words.proofs.Every.{every, at-each}
+use Rattle.rows.proofs.Every.{every, at-each}
 use Rattle.digits.specs.Digits.{decimal}
 use Rattle.digits.proofs.Decimals.{decimal-least}
 use Rattle.names.specs.declared.Suffix.{Suffix}

@@ -10,7 +10,7 @@ use lib.ListN.{length, getD, length-append}
 use lib.Seq.{getD-append-add}
 use borrow.Author.Tests.{le-leb, eqb-true}
 use Rattle.machine.specs.Size.{sizes}
-use Rattle.words.proofs.Every.{every, at-each}
+use Rattle.rows.proofs.Every.{every, at-each}
 use Rattle.digits.specs.Digits.{digitOf, digitsIn, decimalWidth, decimal}
 use Rattle.digits.proofs.Decimals.{digits-length, decimal-least}
 use Rattle.names.specs.declared.Suffix.the-variants.{Lane, Lanes}

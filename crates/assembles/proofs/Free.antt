@@ -9,8 +9,8 @@ use native.Mathlib.Omega.{arith}
 use lib.Dec.{eqb}
 use lib.Seq.{append-snoc}
 use Rattle.parts.specs.Text.{bytes}
-use Rattle.words.specs.Table.{rows, rowAt}
-use Rattle.words.proofs.Every.{every, at-each}
+use Rattle.rows.specs.Table.{rows, rowAt}
+use Rattle.rows.proofs.Every.{every, at-each}
 use Rattle.digits.specs.Digits.{digitOf, digitsIn, decimalWidth, decimal}
 use Rattle.names.specs.declared.Suffix.{Suffix}
 use Rattle.names.specs.declared.Suffix.the-variants.{Plain, Lane, Lanes, Merging}

@@ -11,7 +11,7 @@ use lib.ListN.{getD}
 use borrow.Author.Tests.{eqb-true}
 use Rattle.parts.specs.Part.{both}
 use Rattle.parts.proofs.Same.{both-left, both-right}
-use Rattle.words.proofs.Every.{every, at-each}
+use Rattle.rows.proofs.Every.{every, at-each}
 use Rattle.digits.specs.Digits.{digitOf, decimalWidth, decimal}
 use Rattle.digits.proofs.Decimals.{width-least, width-below, decimal-holds, decimal-one, decimal-two}
 use Rattle.names.specs.declared.Suffix.{Suffix}

@@ -8,7 +8,7 @@ use Prim.Native.Nat.{ℕ, _≤_, _<_, _^_}
 use lib.ListN.{length, take}
 use Rattle.machine.specs.Refusal.{DONE, TEXT}
 use Rattle.machine.specs.declared.Answer.{Answer}
-use Rattle.words.specs.Digits.{wordDigits}
+use Rattle.rows.specs.Digits.{wordDigits}
 use Rattle.words.specs.Decode.{decoded, numberOf}
 use Rattle.words.specs.Encode.{encoded, InRange}
 use Rattle.words.specs.declared.Fields.{Fields}

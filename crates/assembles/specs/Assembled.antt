@@ -5,7 +5,7 @@ use mathlib.Core.List.{List}
 use Prim.Native.Nat.{ℕ, _<_, _^_}
 use Rattle.machine.specs.Refusal.{DONE, TEXT}
 use Rattle.machine.specs.declared.Answer.{Answer}
-use Rattle.words.specs.Digits.{wordDigits}
+use Rattle.rows.specs.Digits.{wordDigits}
 use Rattle.words.specs.Decode.{decoded, numberOf}
 use Rattle.names.specs.Named.{textOfWord}
 

@@ -9,14 +9,14 @@ use lib.Dec.{eqb, leb}
 use lib.ListN.{length, getD, drop}
 use Rattle.parts.specs.Part.{both}
 use Rattle.parts.specs.Text.{bytes}
-use Rattle.words.specs.Digits.{wordDigits}
-use Rattle.words.specs.Table.{familyOf}
+use Rattle.rows.specs.Digits.{wordDigits}
+use Rattle.rows.specs.Table.{familyOf}
 use Rattle.words.specs.Field.{sizeDigits, registerDigits, predicateDigits}
 use Rattle.words.specs.Encode.{encoded}
-use Rattle.words.specs.declared.Family.{Family}
-use Rattle.words.specs.declared.Family.the-variants.{Low, Wide}
-use Rattle.words.specs.declared.LowFamily.the-variants.{Reduction, Segment, Long}
-use Rattle.words.specs.declared.WideFamily.the-variants.{Pairwise, Widening}
+use Rattle.rows.specs.declared.Family.{Family}
+use Rattle.rows.specs.declared.Family.the-variants.{Low, Wide}
+use Rattle.rows.specs.declared.LowFamily.the-variants.{Reduction, Segment, Long}
+use Rattle.rows.specs.declared.WideFamily.the-variants.{Pairwise, Widening}
 use Rattle.words.specs.declared.Fields.{Fields}
 use Rattle.names.specs.Text.{rowNamed, letters}
 

@@ -2,13 +2,13 @@
 use machine::Answer;
 use machine::Length;
 use machine::refusal;
-use words::Family;
+use rows::Family;
+use rows::LowFamily;
+use rows::WideFamily;
 use words::Fields;
-use words::LowFamily;
 use words::PREDICATE_DIGITS;
 use words::REGISTER_DIGITS;
 use words::SIZE_DIGITS;
-use words::WideFamily;
 use words::place;
 ghost use mathlib.Core.Path.{_≡_};
 ghost use Prim.Native.Nat.{_*_, _%_, _≤_, _^_};
@@ -180,7 +180,7 @@ fn read_fields(text: &[u8]) -> Fields
     let b = number_at(text, second);
     let c = number_at(text, third);
     let size = size_in(text);
-    by_family(row, words::family_of(row), size, a, b, c, q_in(size, text))
+    by_family(row, rows::family_of(row), size, a, b, c, q_in(size, text))
 }
 
 // A number's last digits at their place in a word.
@@ -195,7 +195,7 @@ fn placed(number: usize, digits: u32, low: u32) -> u64
 fn encode(f: Fields) -> u32
     ensures { λ r. ⌜ r ≡ wordOf f ⌝ }
 {
-    let entry = words::row_at(f.row);
+    let entry = rows::row_at(f.row);
     let value = entry.2 as u64;
     let n = placed(f.n, REGISTER_DIGITS, place::SOURCE);
     let m = placed(f.m, REGISTER_DIGITS, place::SECOND);

@@ -9,9 +9,9 @@ use native.Mathlib.Omega.{arith}
 use lib.Bits.{bitAnd, and-block, and-mod, and-le-l}
 use lib.Pow.{split, pow-pos}
 use borrow.Author.Tests.{eq-eqb, ne-eqb}
-use Rattle.words.specs.Digits.{digitsAnd, wordDigits}
-use Rattle.words.specs.Table.{rows, rowAt, rowMask, rowValue, matches}
-use Rattle.words.proofs.Digits.{and-digits, and-below}
+use Rattle.rows.specs.Digits.{digitsAnd, wordDigits}
+use Rattle.rows.specs.Table.{rows, rowAt, rowMask, rowValue, matches}
+use Rattle.rows.proofs.Digits.{and-digits, and-below}
 use Rattle.words.proofs.Encoding.{value-within}
 use Rattle.count_words.specs.Tally.{blockWords}
 

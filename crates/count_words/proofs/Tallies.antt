@@ -10,7 +10,7 @@ use native.Mathlib.Omega.{arith}
 use lib.Dec.{eqb}
 use borrow.Author.Tests.{ne-eqb}
 use Rattle.machine.specs.Refusal.{UNKNOWN}
-use Rattle.words.specs.Table.{rows, rowAt, matches}
+use Rattle.rows.specs.Table.{rows, rowAt, matches}
 use Rattle.words.specs.Decode.{decoded, numberOf}
 use Rattle.words.proofs.Answers.{number-unknown}
 use Rattle.count_words.specs.Tally.{blockWords, tally}

@@ -3,7 +3,7 @@ use mathlib.Core.Path.{_≡_}
 use mathlib.Core.Bool.{false, cond}
 use Prim.Native.Nat.{ℕ, zero, suc, _+_, _*_, _^_, _<_}
 use lib.Dec.{eqb}
-use Rattle.words.specs.Table.{rows, rowAt, matches}
+use Rattle.rows.specs.Table.{rows, rowAt, matches}
 use Rattle.words.specs.Decode.{decoded, numberOf}
 
 -- the words of a block, which is also the number of blocks

@@ -1,13 +1,13 @@
 // Counts the words of each answer over all 2^32: upper halves that no row has are passed over, the others are decoded word by word.
 use machine::refusal;
-use words::ROWS;
+use rows::ROWS;
 ghost use mathlib.Core.Path.{_≡_};
 ghost use mathlib.Core.Bool.{false, cond};
 ghost use mathlib.Core.Logic.{_↔_, _≢_};
 ghost use Prim.Native.Nat.{_*_, _^_, _<_};
 ghost use lib.Dec.{eqb};
 ghost use Rattle.machine.specs.Refusal.{UNKNOWN};
-ghost use Rattle.words.specs.Digits.{wordDigits};
+ghost use Rattle.rows.specs.Digits.{wordDigits};
 ghost use Rattle.count_words.specs.Tally.{blockWords, tally, NoWord};
 
 // The words of a block, which have one upper half; there are as many blocks.
@@ -23,7 +23,7 @@ fn block_matches(upper: u32) -> bool
 {
     let mut i = 0;
     while i < ROWS {
-        let row = words::row_at(i);
+        let row = rows::row_at(i);
         if upper & (row.1 >> HALF) == row.2 >> HALF {
             return true;
         }

@@ -1,5 +1,5 @@
 // What a lane of the families that write every lane is made of: elements of the sources, added or subtracted, and the old lane.
-use words::Parameters;
+use rows::Parameters;
 ghost use mathlib.Core.Path.{_≡_};
 ghost use mathlib.Core.Bool.{cond};
 ghost use mathlib.Core.List.{[], _∷_};

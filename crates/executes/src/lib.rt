@@ -1,6 +1,6 @@
 // What each word does to its destination register: its low bytes are made and written, or every lane in place.
 use registers::Kind;
-use words::Family;
+use rows::Family;
 use words::Fields;
 ghost use mathlib.Core.Path.{_≡_};
 ghost use Rattle.registers.specs.State.{state};
@@ -12,7 +12,7 @@ pub fn execute(f: Fields, k: usize, z: &mut [u8], p: &[u8])
     requires { ⌜ Executable f k (state (now z) (now p)) ⌝ }
     ensures { λ _. ⌜ now (z .exit) ≡ executed f k (state (now (z .entry)) (now (p .entry))) .z ⌝ }
 {
-    let form = words::form_of(f.row);
+    let form = rows::form_of(f.row);
     let family = form.family;
     match family {
         Family::Low(low) => {

@@ -2,8 +2,8 @@
 -- Assumes nothing.
 use mathlib.Core.Path.{_≡_, refl}
 use mathlib.Core.List.{map}
-use Rattle.words.specs.Digits.{digitsAnd}
-use Rattle.words.specs.Table.{rowAt, matches, placeFrom, rowOf}
+use Rattle.rows.specs.Digits.{digitsAnd}
+use Rattle.rows.specs.Table.{rowAt, matches, placeFrom, rowOf}
 use Rattle.words.specs.Decode.{decoded}
 use Rattle.digits.specs.Digits.{digitOf, digitsIn, widthWithin, decimalWidth}
 use Rattle.names.specs.Text.{keyOf, nameOf, letterOf, textOf}

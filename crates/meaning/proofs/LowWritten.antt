@@ -16,11 +16,11 @@ use Rattle.lanes.specs.Lane.{widthOf, fromLanes}
 use Rattle.lanes.specs.Integer.{residue}
 use Rattle.lanes.specs.Sum.{each, element, activeElement, total}
 use Rattle.lanes.proofs.Written.{same-lanes, length-lanes}
-use Rattle.words.specs.Table.{formOf, familyOf}
+use Rattle.rows.specs.Table.{formOf, familyOf}
 use Rattle.words.specs.declared.Fields.{Fields}
-use Rattle.words.specs.declared.Parameters.{Parameters}
-use Rattle.words.specs.declared.Family.the-variants.{Low}
-use Rattle.words.specs.declared.LowFamily.the-variants.{Reduction, Segment, Long}
+use Rattle.rows.specs.declared.Parameters.{Parameters}
+use Rattle.rows.specs.declared.Family.the-variants.{Low}
+use Rattle.rows.specs.declared.LowFamily.the-variants.{Reduction, Segment, Long}
 use Rattle.sums.specs.Sums.{laneSum}
 use Rattle.sums.specs.Panel.{perSegment, columnElement, columnSum}
 use Rattle.sums.proofs.Accepted.{width-legal}

@@ -16,14 +16,15 @@ use Rattle.registers.specs.declared.Kind.the-variants.{Vector, Predicate}
 use Rattle.registers.proofs.Places.{in-files, length-register}
 use Rattle.lanes.specs.Lane.{widthOf}
 use Rattle.lanes.proofs.Written.{length-lanes}
-use Rattle.words.specs.Table.{formOf, familyOf, allowsLong, allowsLow, allowsFamily}
+use Rattle.rows.specs.Table.{formOf, familyOf}
+use Rattle.words.specs.Sizes.{allowsLong, allowsLow, allowsFamily}
 use Rattle.words.proofs.Decoding.{governing-below, second-below}
 use Rattle.words.specs.declared.Fields.{Fields}
-use Rattle.words.specs.declared.Family.{Family}
-use Rattle.words.specs.declared.Family.the-variants.{Low, Wide}
-use Rattle.words.specs.declared.LowFamily.{LowFamily}
-use Rattle.words.specs.declared.LowFamily.the-variants.{Reduction, Segment, Long}
-use Rattle.words.specs.declared.WideFamily.{WideFamily}
+use Rattle.rows.specs.declared.Family.{Family}
+use Rattle.rows.specs.declared.Family.the-variants.{Low, Wide}
+use Rattle.rows.specs.declared.LowFamily.{LowFamily}
+use Rattle.rows.specs.declared.LowFamily.the-variants.{Reduction, Segment, Long}
+use Rattle.rows.specs.declared.WideFamily.{WideFamily}
 use Rattle.sums.specs.Sums.{Governs}
 use Rattle.sums.proofs.Accepted.{width-legal}
 use Rattle.meaning.specs.Meaning.{lowWidth, widthAfter, lowLanes, lanesAfter}

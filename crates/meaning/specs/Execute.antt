@@ -9,7 +9,7 @@ use Rattle.registers.specs.declared.Kind.the-variants.{Vector, Predicate}
 use Rattle.registers.specs.State.{State, read, write}
 use Rattle.lanes.specs.Lane.{widthOf}
 use Rattle.lanes.specs.Integer.{residue}
-use Rattle.words.specs.Table.{formOf, familyOf}
+use Rattle.rows.specs.Table.{formOf, familyOf}
 use Rattle.words.specs.declared.Fields.{Fields}
 use Rattle.meaning.specs.Terms.{Operands, Term, sumOf}
 use Rattle.meaning.specs.Meaning.{familyTerms, widthAfter, lanesAfter, familyWritten}

@@ -5,13 +5,13 @@ use Rattle.parts.specs.Number.{bitsOf}
 use Rattle.lanes.specs.Lane.{fromLanes}
 use Rattle.lanes.specs.Integer.{residue}
 use Rattle.sums.specs.Panel.{perSegment}
-use Rattle.words.specs.declared.Parameters.{Parameters}
-use Rattle.words.specs.declared.Family.{Family}
-use Rattle.words.specs.declared.Family.the-variants.{Low, Wide}
-use Rattle.words.specs.declared.LowFamily.{LowFamily}
-use Rattle.words.specs.declared.LowFamily.the-variants.{Reduction, Segment, Long}
-use Rattle.words.specs.declared.WideFamily.{WideFamily}
-use Rattle.words.specs.declared.WideFamily.the-variants.{Pairwise, Widening}
+use Rattle.rows.specs.declared.Parameters.{Parameters}
+use Rattle.rows.specs.declared.Family.{Family}
+use Rattle.rows.specs.declared.Family.the-variants.{Low, Wide}
+use Rattle.rows.specs.declared.LowFamily.{LowFamily}
+use Rattle.rows.specs.declared.LowFamily.the-variants.{Reduction, Segment, Long}
+use Rattle.rows.specs.declared.WideFamily.{WideFamily}
+use Rattle.rows.specs.declared.WideFamily.the-variants.{Pairwise, Widening}
 use Rattle.meaning.specs.Terms.{Operands, Term, sumOf, reductionTerms, segmentTerms, longTerms, pairwiseTerms, wideningTerms}
 
 -- what feeds lane e, of the families that write the low bytes

@@ -2,10 +2,10 @@
 use Prim.Native.Nat.{ℕ}
 use mathlib.Core.Path.{_≡_}
 use Rattle.registers.specs.State.{State, Sized}
-use Rattle.words.specs.Table.{familyOf}
+use Rattle.rows.specs.Table.{familyOf}
 use Rattle.words.specs.Encode.{InRange}
 use Rattle.words.specs.declared.Fields.{Fields}
-use Rattle.words.specs.declared.Family.{Family}
+use Rattle.rows.specs.declared.Family.{Family}
 
 -- a word's fields, a legal length and a state of its sizes
 pub record Executable (f : Fields) (k : ℕ) (s : State) : Type 0 where

@@ -7,7 +7,7 @@ use lib.IntN.{ℤ, negℤ}
 use Rattle.machine.specs.Size.{segmentBytes}
 use Rattle.lanes.specs.Lane.{active}
 use Rattle.lanes.specs.Sum.{each, element, counted, total}
-use Rattle.words.specs.declared.Parameters.{Parameters}
+use Rattle.rows.specs.declared.Parameters.{Parameters}
 use Rattle.sums.specs.Panel.{perSegment}
 
 -- the registers that elements are taken from: Z[n], Z[m] and the old Z[d]

@@ -6,14 +6,14 @@ use lib.ListN.{length}
 use lib.IntN.{ℤ}
 use Rattle.registers.specs.State.{State}
 use Rattle.lanes.specs.Lane.{widthOf}
-use Rattle.words.specs.Table.{formOf}
+use Rattle.rows.specs.Table.{formOf}
 use Rattle.words.specs.Field.{governingDigits}
 use Rattle.words.specs.declared.Fields.{Fields}
-use Rattle.words.specs.declared.Parameters.{Parameters}
-use Rattle.words.specs.declared.Family.{Family}
-use Rattle.words.specs.declared.Family.the-variants.{Low, Wide}
-use Rattle.words.specs.declared.LowFamily.the-variants.{Reduction, Segment, Long}
-use Rattle.words.specs.declared.WideFamily.the-variants.{Pairwise, Widening}
+use Rattle.rows.specs.declared.Parameters.{Parameters}
+use Rattle.rows.specs.declared.Family.{Family}
+use Rattle.rows.specs.declared.Family.the-variants.{Low, Wide}
+use Rattle.rows.specs.declared.LowFamily.the-variants.{Reduction, Segment, Long}
+use Rattle.rows.specs.declared.WideFamily.the-variants.{Pairwise, Widening}
 use Rattle.sums.specs.Sums.{Governed, AgreeAt}
 use Rattle.meaning.specs.Terms.{Operand2, elementOf, halfTerm, firstTerm}
 use Rattle.meaning.specs.Execute.{operandsOf, maskOf}

@@ -3,8 +3,8 @@
 use mathlib.Core.Path.{_≡_, refl}
 use mathlib.Core.List.{[], _∷_, map}
 use Rattle.parts.specs.Text.{bytes}
-use Rattle.words.specs.Digits.{digitsAnd}
-use Rattle.words.specs.Table.{rowAt, rowOf, matches, placeFrom}
+use Rattle.rows.specs.Digits.{digitsAnd}
+use Rattle.rows.specs.Table.{rowAt, rowOf, matches, placeFrom}
 use Rattle.words.specs.Decode.{decoded}
 use Rattle.digits.specs.Digits.{digitOf, digitsIn, widthWithin, decimalWidth}
 use Rattle.names.specs.Text.{keyOf, nameOf, letterOf, textOf}

@@ -13,10 +13,10 @@ use borrow.Author.Tests.{eqb-true, leb-true, eq-eqb, ne-eqb}
 use Rattle.parts.specs.Part.{both, sameBytes}
 use Rattle.parts.specs.Text.{bytes}
 use Rattle.parts.proofs.Same.{both-left, both-right, same-true, same-not}
-use Rattle.words.specs.Table.{nameBytes, rows, rowAt, table, noRow}
-use Rattle.words.specs.declared.Row.{Row}
-use Rattle.words.proofs.Every.{every, at-each}
-use Rattle.words.proofs.Rows.{at-any, row-read}
+use Rattle.rows.specs.Table.{nameBytes, rows, rowAt, table, noRow}
+use Rattle.rows.specs.declared.Row.{Row}
+use Rattle.rows.proofs.Every.{every, at-each}
+use Rattle.rows.proofs.Rows.{at-any, row-read}
 use Rattle.names.specs.Text.{keyOf, nameOf, keys, keyFrom, rowNamed}
 
 -- a row's name and its space, by its six bytes: they have the space, or it still comes

@@ -11,22 +11,22 @@ use lib.ListN.{length, length-append}
 use borrow.Author.Tests.{ltb-true}
 use Rattle.parts.specs.Text.{bytes}
 use Rattle.machine.specs.Size.{sizes}
-use Rattle.words.specs.Digits.{digitsAnd}
-use Rattle.words.specs.Table.{rowAt, rowOf, familyOf, formOf, matches, placeFrom}
+use Rattle.rows.specs.Digits.{digitsAnd}
+use Rattle.rows.specs.Table.{rowAt, rowOf, familyOf, formOf, matches, placeFrom}
 use Rattle.words.specs.Field.{registerDigits, governingDigits, secondDigits, qDigits}
 use Rattle.words.specs.Decode.{decoded}
 use Rattle.words.specs.Encode.{InRange}
-use Rattle.words.specs.declared.Family.{Family}
-use Rattle.words.specs.declared.Family.the-variants.{Low, Wide}
-use Rattle.words.specs.declared.LowFamily.the-variants.{Reduction, Segment, Long}
-use Rattle.words.specs.declared.WideFamily.the-variants.{Pairwise, Widening}
+use Rattle.rows.specs.declared.Family.{Family}
+use Rattle.rows.specs.declared.Family.the-variants.{Low, Wide}
+use Rattle.rows.specs.declared.LowFamily.the-variants.{Reduction, Segment, Long}
+use Rattle.rows.specs.declared.WideFamily.the-variants.{Pairwise, Widening}
 use Rattle.words.specs.declared.Fields.{Fields}
-use Rattle.words.specs.declared.Form.{Form}
+use Rattle.rows.specs.declared.Form.{Form}
 use Rattle.words.specs.declared.Decoded.{Decoded}
 use Rattle.words.specs.declared.Decoded.the-variants.{Unknown, Undefined, Word}
 use Rattle.words.proofs.Decoding.{governing-below, second-below, q-below}
 use Rattle.words.proofs.Encoding.{decoded-in-range}
-use Rattle.words.proofs.Every.{every, at-each}
+use Rattle.rows.proofs.Every.{every, at-each}
 use Rattle.digits.specs.Digits.{digitOf, digitsIn, widthWithin, decimalWidth, decimal}
 use Rattle.digits.proofs.Puts.{room-first}
 use Rattle.digits.proofs.Decimals.{decimal-short}

@@ -8,13 +8,13 @@ use lib.Dec.{eqb}
 use lib.ListN.{getD, take, length}
 use Rattle.parts.specs.Part.{sameBytes}
 use Rattle.parts.specs.Text.{bytes}
-use Rattle.words.specs.Table.{nameBytes, table, rowAt, familyOf, formOf}
+use Rattle.rows.specs.Table.{nameBytes, table, rowAt, familyOf, formOf}
 use Rattle.words.specs.Field.{governingDigits, secondDigits}
-use Rattle.words.specs.declared.Row.{Row}
-use Rattle.words.specs.declared.Family.{Family}
-use Rattle.words.specs.declared.Family.the-variants.{Low, Wide}
-use Rattle.words.specs.declared.LowFamily.the-variants.{Reduction, Segment, Long}
-use Rattle.words.specs.declared.WideFamily.the-variants.{Pairwise, Widening}
+use Rattle.rows.specs.declared.Row.{Row}
+use Rattle.rows.specs.declared.Family.{Family}
+use Rattle.rows.specs.declared.Family.the-variants.{Low, Wide}
+use Rattle.rows.specs.declared.LowFamily.the-variants.{Reduction, Segment, Long}
+use Rattle.rows.specs.declared.WideFamily.the-variants.{Pairwise, Widening}
 use Rattle.words.specs.declared.Fields.{Fields}
 use Rattle.digits.specs.Digits.{decimal}
 use Rattle.names.specs.declared.Suffix.{Suffix}

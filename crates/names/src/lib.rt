@@ -9,11 +9,11 @@ use machine::Length;
 use machine::refusal;
 use row::key_of;
 pub use row::row_named;
+use rows::Family;
+use rows::LowFamily;
+use rows::WideFamily;
 use words::Decoded;
-use words::Family;
 use words::Fields;
-use words::LowFamily;
-use words::WideFamily;
 ghost use mathlib.Core.Path.{_≡_};
 ghost use mathlib.Core.Bool.{cond};
 ghost use mathlib.Core.List.{_++_};
@@ -21,7 +21,7 @@ ghost use Prim.Native.Nat.{_+_, _-_, _≤_, _<_};
 ghost use lib.ListN.{length};
 ghost use Rattle.parts.specs.Text.{bytes};
 ghost use Rattle.machine.specs.Size.{sizes};
-ghost use Rattle.words.specs.Table.{rows};
+ghost use Rattle.rows.specs.Table.{rows};
 ghost use Rattle.words.specs.Encode.{InRange};
 ghost use Rattle.digits.specs.Put.{Put};
 ghost use Rattle.names.specs.Text.{nameOf, letterOf, lanesOf, suffixText, operand, operandText, further, destinationOperand, governingOperand, sourceOperand, textOf};
@@ -205,7 +205,7 @@ fn put_text(out: &mut [u8], f: Fields) -> usize
     requires { ⌜ (leastOut ≤ length (now out)) × InRange f ⌝ }
     ensures { λ r. ⌜ Put (now (out .entry)) 0 (textOf f) (now (out .exit)) r ⌝ }
 {
-    let form = words::form_of(f.row);
+    let form = rows::form_of(f.row);
     let family = form.family;
     let first = put_name(out, f.row);
     let second = put_operand(out, first, destination(family, f));

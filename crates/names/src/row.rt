@@ -1,12 +1,12 @@
 // The rows by name: the first six bytes of a text tell its row.
-use words::NAME;
-use words::ROWS;
-use words::Row;
+use rows::NAME;
+use rows::ROWS;
+use rows::Row;
 ghost use mathlib.Core.Path.{_≡_};
 ghost use Prim.Native.Nat.{_<_};
 ghost use lib.ListN.{length, take};
 ghost use Rattle.parts.specs.Part.{sameBytes};
-ghost use Rattle.words.specs.Table.{nameBytes, rows};
+ghost use Rattle.rows.specs.Table.{nameBytes, rows};
 ghost use Rattle.names.specs.Text.{rowNamed, Key};
 
 // The first six bytes of a text of a row.
@@ -14,7 +14,7 @@ pub fn key_of(row: usize) -> [u8; NAME]
     requires { ⌜ row < rows ⌝ }
     ensures { λ r. ⌜ Key row r ⌝ }
 {
-    let entry = words::row_at(row);
+    let entry = rows::row_at(row);
     entry.0
 }
 
@@ -34,7 +34,7 @@ fn is_named(text: &[u8], line: Row) -> bool
 pub fn row_named(text: &[u8]) -> usize
     ensures { λ r. ⌜ r ≡ rowNamed (now (text .entry)) ⌝ }
 {
-    let lines = words::table();
+    let lines = rows::table();
     let mut i = 0;
     while i < ROWS {
         if is_named(text, lines[i]) {

@@ -17,7 +17,7 @@ use Rattle.lanes.specs.Lane.{lane, bitAt}
 use Rattle.lanes.specs.Integer.{integer, residue}
 use Rattle.lanes.specs.Sum.{each, element, counted, activeElement, total}
 use Rattle.lanes.proofs.Sums.{same-each}
-use Rattle.words.proofs.Every.{at-each}
+use Rattle.rows.proofs.Every.{at-each}
 use Rattle.sums.specs.Sums.{laneSum}
 use Rattle.meaning.specs.Terms.{dataBytes}
 

@@ -1,8 +1,8 @@
 // The families that write the low bytes of their destination: reductions, segment sums and sums across a vector.
 use registers::Kind;
+use rows::LowFamily;
+use rows::Parameters;
 use words::Fields;
-use words::LowFamily;
-use words::Parameters;
 ghost use mathlib.Core.Path.{_≡_};
 ghost use Prim.Native.Nat.{_*_, _/_, _≤_};
 ghost use lib.ListN.{length};
@@ -13,8 +13,8 @@ ghost use Rattle.registers.specs.State.{state};
 ghost use Rattle.lanes.specs.Lane.{fromLanes};
 ghost use Rattle.lanes.specs.Integer.{residue};
 ghost use Rattle.lanes.specs.Sum.{each, element, total};
-ghost use Rattle.words.specs.Table.{formOf};
-ghost use Rattle.words.specs.declared.Family.the-variants.{Low};
+ghost use Rattle.rows.specs.Table.{formOf};
+ghost use Rattle.rows.specs.declared.Family.the-variants.{Low};
 ghost use Rattle.sums.specs.Sums.{Governs, laneSum};
 ghost use Rattle.sums.specs.Panel.{perSegment, columnSum, GovernedSegments};
 ghost use Rattle.meaning.specs.Terms.{dataBytes};

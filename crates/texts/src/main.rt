@@ -4,7 +4,7 @@
 use libc::STDOUT_FILENO;
 use machine::Length;
 use machine::refusal;
-use words::ROWS;
+use rows::ROWS;
 ghost use Prim.Native.Nat.{_<_};
 ghost use Rattle.machine.specs.Size.{sizes};
 
@@ -31,7 +31,7 @@ const WORDS: [u32; COUNT] = [
 fn word_of(row: usize, size: u32, most: bool) -> u32
     requires { ⌜ size < sizes ⌝ }
 {
-    let entry = words::row_at(row);
+    let entry = rows::row_at(row);
     let least = entry.2 | (size << words::place::SIZE);
     if most {
         return least | ((0xFFFFFFFF - entry.1) & NO_SIZE);

@@ -11,9 +11,9 @@ use Rattle.registers.specs.State.{State}
 use Rattle.registers.specs.declared.Kind.the-variants.{Vector}
 use Rattle.lanes.specs.Integer.{residue}
 use Rattle.words.specs.declared.Fields.{Fields}
-use Rattle.words.specs.declared.Parameters.{Parameters}
-use Rattle.words.specs.declared.WideFamily.{WideFamily}
-use Rattle.words.specs.declared.WideFamily.the-variants.{Pairwise, Widening}
+use Rattle.rows.specs.declared.Parameters.{Parameters}
+use Rattle.rows.specs.declared.WideFamily.{WideFamily}
+use Rattle.rows.specs.declared.WideFamily.the-variants.{Pairwise, Widening}
 use Rattle.sums.specs.Sums.{Governs}
 use Rattle.sums.proofs.Accepted.{width-legal}
 use Rattle.meaning.specs.Terms.{sumOf, pairwiseTerms, wideningTerms}

@@ -27,12 +27,12 @@ use Rattle.lanes.specs.Lane.{widthOf, fromLanes}
 use Rattle.lanes.specs.Integer.{residue}
 use Rattle.lanes.specs.Sum.{element}
 use Rattle.lanes.proofs.Written.{length-lanes, lanes-snoc, bytes-residue}
-use Rattle.words.specs.Table.{formOf}
+use Rattle.rows.specs.Table.{formOf}
 use Rattle.words.specs.declared.Fields.{Fields}
-use Rattle.words.specs.declared.Parameters.{Parameters}
-use Rattle.words.specs.declared.Family.the-variants.{Wide}
-use Rattle.words.specs.declared.WideFamily.{WideFamily}
-use Rattle.words.specs.declared.WideFamily.the-variants.{Pairwise, Widening}
+use Rattle.rows.specs.declared.Parameters.{Parameters}
+use Rattle.rows.specs.declared.Family.the-variants.{Wide}
+use Rattle.rows.specs.declared.WideFamily.{WideFamily}
+use Rattle.rows.specs.declared.WideFamily.the-variants.{Pairwise, Widening}
 use Rattle.sums.proofs.Accepted.{width-legal}
 use Rattle.meaning.specs.Terms.{Operands, Source, Operand1, Operand2, Old, operandOf, elementOf, sumOf, selected, firstTerm}
 use Rattle.meaning.specs.Meaning.{wideTerms}

@@ -4,11 +4,11 @@ use mathlib.Core.Path.{_≡_}
 use Rattle.machine.specs.Size.{vectorBytes}
 use Rattle.registers.specs.State.{State}
 use Rattle.lanes.specs.Lane.{widthOf}
-use Rattle.words.specs.Table.{formOf}
+use Rattle.rows.specs.Table.{formOf}
 use Rattle.words.specs.declared.Fields.{Fields}
-use Rattle.words.specs.declared.Family.the-variants.{Wide}
-use Rattle.words.specs.declared.WideFamily.{WideFamily}
-use Rattle.words.specs.declared.Parameters.{Parameters}
+use Rattle.rows.specs.declared.Family.the-variants.{Wide}
+use Rattle.rows.specs.declared.WideFamily.{WideFamily}
+use Rattle.rows.specs.declared.Parameters.{Parameters}
 use Rattle.meaning.specs.Needs.{ExecutableAs}
 
 -- a word whose family writes every lane, with its parameters and its width at hand

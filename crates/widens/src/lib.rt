@@ -1,8 +1,8 @@
 // The families that write every lane: pairwise accumulates, and widening sums and differences.
 use registers::Kind;
+use rows::Parameters;
+use rows::WideFamily;
 use words::Fields;
-use words::Parameters;
-use words::WideFamily;
 ghost use mathlib.Core.Path.{_≡_};
 ghost use Prim.Native.Nat.{_+_, _*_, _≤_};
 ghost use Rattle.machine.specs.Size.{vectorBytes};
@@ -10,9 +10,9 @@ ghost use Rattle.parts.specs.Number.{withNumber};
 ghost use Rattle.registers.specs.Register.{registerAt, InFile};
 ghost use Rattle.registers.specs.declared.Kind.the-variants.{Vector};
 ghost use Rattle.registers.specs.State.{state};
-ghost use Rattle.words.specs.Table.{formOf};
-ghost use Rattle.words.specs.declared.Family.the-variants.{Wide};
-ghost use Rattle.words.specs.declared.WideFamily.the-variants.{Pairwise, Widening};
+ghost use Rattle.rows.specs.Table.{formOf};
+ghost use Rattle.rows.specs.declared.Family.the-variants.{Wide};
+ghost use Rattle.rows.specs.declared.WideFamily.the-variants.{Pairwise, Widening};
 ghost use Rattle.meaning.specs.Execute.{laneWritten, executed};
 ghost use Rattle.meaning.specs.Needs.{ExecutableAs};
 ghost use Rattle.widens.specs.Needs.{WideLanes, WideTurn};

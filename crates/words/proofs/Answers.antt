@@ -11,16 +11,17 @@ use lib.Dec.{ltb}
 use borrow.Author.Tests.{ltb-true, ltb-false}
 use Rattle.machine.specs.Refusal.{DONE, UNKNOWN, UNDEFINED}
 use Rattle.machine.proofs.Tests.{one-result}
-use Rattle.words.specs.Table.{table, rows, rowAt, rowOf, familyOf, formOf, matches, allows}
+use Rattle.rows.specs.Table.{table, rows, rowAt, rowOf, familyOf, formOf, matches}
+use Rattle.words.specs.Sizes.{allows}
 use Rattle.words.specs.Field.{Counted}
 use Rattle.words.specs.Decode.{decoded, judged, fieldsAt, numberOf, RowWith}
-use Rattle.words.specs.declared.Row.{Row}
-use Rattle.words.specs.declared.Family.{Family}
-use Rattle.words.specs.declared.Form.{Form}
+use Rattle.rows.specs.declared.Row.{Row}
+use Rattle.rows.specs.declared.Family.{Family}
+use Rattle.rows.specs.declared.Form.{Form}
 use Rattle.words.specs.declared.Fields.{Fields}
 use Rattle.words.specs.declared.Decoded.{Decoded}
-use Rattle.words.proofs.Rows.{row-matches, row-no-later}
-use Rattle.words.proofs.OneRow.{row-found}
+use Rattle.rows.proofs.Rows.{row-matches, row-no-later}
+use Rattle.rows.proofs.OneRow.{row-found}
 use Rattle.words.proofs.Decoding.{decoded-unknown, decoded-judged}
 
 -- two results that the contract of a public call allows are the same
@@ -29,18 +30,6 @@ decode-determined word = one-result (decoded word)
 
 pub number-of-determined : (d : Decoded) (r s : ℕ) → r ≡ numberOf d → s ≡ numberOf d → r ≡ s
 number-of-determined d = one-result (numberOf d)
-
-pub table-determined : (r s : List Row) → r ≡ table → s ≡ table → r ≡ s
-table-determined = one-result table
-
-pub row-at-determined : (i : ℕ) (r s : Row) → r ≡ rowAt i → s ≡ rowAt i → r ≡ s
-row-at-determined i = one-result (rowAt i)
-
-pub family-of-determined : (i : ℕ) (r s : Family) → r ≡ familyOf i → s ≡ familyOf i → r ≡ s
-family-of-determined i = one-result (familyOf i)
-
-pub form-of-determined : (i : ℕ) (r s : Form) → r ≡ formOf i → s ≡ formOf i → r ≡ s
-form-of-determined i = one-result (formOf i)
 
 pub digits-determined : (n r s : ℕ) → Counted n r → Counted n s → r ≡ s
 digits-determined n r s a b = one-result n r s (a .is) (b .is)

@@ -8,15 +8,16 @@ use native.Mathlib.Omega.{arith}
 use lib.Dec.{ltb}
 use lib.Pow.{pow-mono}
 use borrow.Author.Tests.{lt-ltb, le-ltb, ltb-true}
-use Rattle.words.specs.Table.{rows, rowOf, formOf, allows}
+use Rattle.rows.specs.Table.{rows, rowOf, formOf}
+use Rattle.words.specs.Sizes.{allows}
 use Rattle.words.specs.Decode.{decoded, judged, fieldsAt}
 use Rattle.words.specs.Field.{registerDigits, predicateDigits, governingDigits, secondDigits, qDigits}
 use Rattle.words.specs.declared.Decoded.the-variants.{Unknown, Undefined, Word}
 use Rattle.words.specs.declared.Fields.{Fields}
-use Rattle.words.specs.declared.Family.{Family}
-use Rattle.words.specs.declared.Family.the-variants.{Low, Wide}
-use Rattle.words.specs.declared.LowFamily.the-variants.{Reduction, Segment, Long}
-use Rattle.words.specs.declared.WideFamily.the-variants.{Pairwise, Widening}
+use Rattle.rows.specs.declared.Family.{Family}
+use Rattle.rows.specs.declared.Family.the-variants.{Low, Wide}
+use Rattle.rows.specs.declared.LowFamily.the-variants.{Reduction, Segment, Long}
+use Rattle.rows.specs.declared.WideFamily.the-variants.{Pairwise, Widening}
 
 -- where no row matches, and where one does
 pub decoded-unknown : (word : ℕ) → rows ≤ rowOf word → decoded word ≡ Unknown

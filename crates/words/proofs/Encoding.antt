@@ -11,18 +11,18 @@ use lib.ListN.{getD, drop}
 use borrow.Author.Tests.{eq-eqb, eqb-true}
 use Rattle.parts.specs.Part.{both}
 use Rattle.parts.proofs.Same.{both-left, both-right}
-use Rattle.words.specs.Digits.{digitsAnd, wordDigits}
-use Rattle.words.specs.Table.{rows, rowAt, rowMask, rowValue, rowOf, familyOf, matches}
+use Rattle.rows.specs.Digits.{digitsAnd, wordDigits}
+use Rattle.rows.specs.Table.{rows, rowAt, rowMask, rowValue, rowOf, familyOf, matches}
 use Rattle.words.specs.Field.{sizePlace, sourcePlace, destinationPlace, governingPlace, secondPlace, qPlace, sizeDigits, registerDigits, governingDigits, secondDigits, qDigits}
 use Rattle.words.specs.Decode.{decoded, judged, fieldsAt}
 use Rattle.words.specs.Encode.{encoded, InRange}
-use Rattle.words.specs.declared.Family.{Family}
+use Rattle.rows.specs.declared.Family.{Family}
 use Rattle.words.specs.declared.Fields.{Fields}
 use Rattle.words.specs.declared.Decoded.the-variants.{Word}
-use Rattle.words.proofs.Digits.{and-all, and-below, field-below}
-use Rattle.words.proofs.Every.{every, at-each}
-use Rattle.words.proofs.Rows.{row-matches}
-use Rattle.words.proofs.OneRow.{row-found}
+use Rattle.rows.proofs.Digits.{and-all, and-below, field-below}
+use Rattle.rows.proofs.Every.{every, at-each}
+use Rattle.rows.proofs.Rows.{row-matches}
+use Rattle.rows.proofs.OneRow.{row-found}
 use Rattle.words.proofs.Decoding.{digits-most, decoded-judged, accepted}
 use Rattle.words.proofs.Parts.{total, disjoint, under, under-total, Within, total-within, total-under, Place, fieldMask, placed, under-fields, Fits, fields-within, placed-one}
 

@@ -1,8 +1,3 @@
-pub mod Digits
-pub mod Every
-pub mod Rows
-pub mod OneRow
-pub mod Widening
 pub mod Decoding
 pub mod Parts
 pub mod Encoding

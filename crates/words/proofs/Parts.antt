@@ -14,8 +14,8 @@ use lib.Pow.{high-ones, pow-mono, pow-pos, shl-lt, shl-shr}
 use borrow.Author.Tests.{eqb-true}
 use Rattle.parts.specs.Part.{both}
 use Rattle.parts.proofs.Same.{both-left, both-right}
-use Rattle.words.specs.Digits.{digitsAnd, field}
-use Rattle.words.proofs.Digits.{and-digits, and-comm, and-add, and-apart, and-none}
+use Rattle.rows.specs.Digits.{digitsAnd, field}
+use Rattle.rows.proofs.Digits.{and-digits, and-comm, and-add, and-apart, and-none}
 
 abbrev pub total : List ℕ → ℕ
 total [] = 0

@@ -5,8 +5,9 @@ use mathlib.Core.Bool.{Bool, true, false}
 use mathlib.Core.List.{List, [], _∷_}
 use lib.Dec.{eqb, ltb}
 use Rattle.machine.specs.Refusal.{DONE, UNKNOWN, UNDEFINED, Test, test}
-use Rattle.words.specs.Digits.{field}
-use Rattle.words.specs.Table.{rows, rowAt, rowOf, formOf, familyOf, matches, allows}
+use Rattle.rows.specs.Digits.{field}
+use Rattle.rows.specs.Table.{rows, rowAt, rowOf, formOf, familyOf, matches}
+use Rattle.words.specs.Sizes.{allows}
 use Rattle.words.specs.Field.{sizePlace, sourcePlace, destinationPlace, governingPlace, secondPlace, qPlace, sizeDigits, registerDigits, governingDigits, secondDigits, qDigits}
 use Rattle.words.specs.declared.Fields.{Fields}
 use Rattle.words.specs.declared.Decoded.{Decoded}

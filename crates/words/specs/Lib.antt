@@ -1,6 +1,4 @@
-pub mod Digits
-pub mod Table
-pub mod Widening
+pub mod Sizes
 pub mod Field
 pub mod Decode
 pub mod Encode

@@ -4,10 +4,10 @@ use borrow.Author.Needs.{needs}
 use mathlib.Core.Path.{_≡_, ap}
 use Prim.Native.Nat.{ℕ, _+_, _*_, _%_, _^_}
 use native.Mathlib.Omega.{arith}
-use Rattle.words.specs.Digits.{wordDigits}
-use Rattle.words.specs.Table.{rowValue}
+use Rattle.rows.specs.Digits.{wordDigits}
+use Rattle.rows.specs.Table.{rowValue}
 use Rattle.words.specs.Encode.{encoded}
-use Rattle.words.specs.declared.Row.{Row}
+use Rattle.rows.specs.declared.Row.{Row}
 use Rattle.words.specs.declared.Fields.{Fields}
 use Rattle.assembles.specs.Reading.{limited}
 use Rattle.assembles.proofs.encode.Statement.{statement}

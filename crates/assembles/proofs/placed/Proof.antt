@@ -6,7 +6,7 @@ use native.Mathlib.Nat.{mod-lt, mod-eq-of-lt, lt-of-lt-of-le}
 use native.Mathlib.Omega.{arith}
 use lib.Pow.{pow-pos, pow-mono, shl-lt}
 use Rattle.words.specs.Field.{registerDigits, qPlace}
-use Rattle.words.proofs.Digits.{one-shifted}
+use Rattle.rows.proofs.Digits.{one-shifted}
 use Rattle.assembles.proofs.placed.Statement.{statement}
 use Rattle.assembles.proofs.placed.Tie as tie
 

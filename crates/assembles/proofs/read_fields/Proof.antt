@@ -5,8 +5,8 @@ use mathlib.Core.Path.{_≡_, _∙_}
 use mathlib.Core.List.{List}
 use Prim.Native.Nat.{ℕ}
 use lib.ListN.{drop}
-use Rattle.words.specs.Table.{familyOf}
-use Rattle.words.specs.declared.Family.{Family}
+use Rattle.rows.specs.Table.{familyOf}
+use Rattle.rows.specs.declared.Family.{Family}
 use Rattle.names.specs.Text.{rowNamed, letters}
 use Rattle.assembles.specs.Reading.{pastSpace, numberIn, fromEnd, sizeIn, qIn, byFamily, fieldsFrom}
 use Rattle.assembles.proofs.Scan.{place-most}

@@ -7,7 +7,7 @@ use Prim.Native.Nat.{ℕ, _≤_, _<_, _-_, _%_}
 use native.Mathlib.Nat.{mod-lt}
 use native.Mathlib.Omega.{arith}
 use lib.Pow.{pow-pos}
-use Rattle.words.specs.Table.{rows, rowValue}
+use Rattle.rows.specs.Table.{rows, rowValue}
 use Rattle.count_words.specs.Tally.{blockWords}
 use Rattle.count_words.proofs.Blocks.{Upper, other-half, same-half}
 use Rattle.count_words.proofs.block_matches.Statement.{statement}

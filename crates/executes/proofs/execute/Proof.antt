@@ -10,9 +10,9 @@ use lib.ListN.{length}
 use Rattle.machine.specs.Size.{vectorBytes, segmentBytes}
 use Rattle.registers.specs.Register.{padded, withVector}
 use Rattle.registers.specs.State.{state}
-use Rattle.words.specs.Table.{formOf, familyOf}
-use Rattle.words.specs.declared.Form.{Form}
-use Rattle.words.specs.declared.Family.the-variants.{Low, Wide}
+use Rattle.rows.specs.Table.{formOf, familyOf}
+use Rattle.rows.specs.declared.Form.{Form}
+use Rattle.rows.specs.declared.Family.the-variants.{Low, Wide}
 use Rattle.meaning.specs.Execute.{writtenFor}
 use Rattle.meaning.proofs.Padded.{length-padded, padded-padded}
 use Rattle.meaning.proofs.Sizes.{k-least, vector-in, low-written-fits}

@@ -3,7 +3,7 @@
 use borrow.Author.Needs.{needs}
 use Prim.Native.Nat.{_<_}
 use Rattle.machine.specs.Size.{sizes}
-use Rattle.words.specs.Table.{familyOf}
+use Rattle.rows.specs.Table.{familyOf}
 use Rattle.words.proofs.Decoding.{q-below}
 use Rattle.digits.proofs.Puts.{put-then, put-length, room-rest}
 use Rattle.names.specs.Text.{operandText, further}

@@ -7,8 +7,8 @@ use native.Mathlib.Omega.{arith}
 use Rattle.machine.specs.Size.{segmentBytes}
 use Rattle.registers.specs.Register.{padded}
 use Rattle.words.proofs.Decoding.{q-below}
-use Rattle.words.specs.Table.{familyOf}
-use Rattle.words.specs.declared.Family.the-variants.{Low}
+use Rattle.rows.specs.Table.{familyOf}
+use Rattle.rows.specs.declared.Family.the-variants.{Low}
 use Rattle.sums.proofs.Accepted.{width-legal}
 use Rattle.meaning.proofs.Sizes.{k-least, k-most, governing-in, vector-in, vector-length, governs}
 use Rattle.meaning.proofs.LowWritten.{written-reduction, written-segment, written-long}

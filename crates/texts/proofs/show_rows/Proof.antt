@@ -2,7 +2,7 @@
 -- Assumes nothing.
 use Prim.Native.Nat.{_≤_, _-_}
 use borrow.Author.Needs.{needs}
-use Rattle.words.specs.Table.{rows}
+use Rattle.rows.specs.Table.{rows}
 use Rattle.texts.proofs.show_rows.Statement.{statement}
 use Rattle.texts.proofs.show_rows.Tie as tie
 

@@ -7,12 +7,12 @@ use native.Mathlib.Omega.{arith}
 use denote.Ref.{now}
 use Rattle.registers.specs.State.{State, state}
 use Rattle.lanes.specs.Lane.{widthOf}
-use Rattle.words.specs.Table.{formOf}
+use Rattle.rows.specs.Table.{formOf}
 use Rattle.words.specs.declared.Fields.{Fields}
-use Rattle.words.specs.declared.Parameters.{Parameters}
-use Rattle.words.specs.declared.Family.the-variants.{Wide}
-use Rattle.words.specs.declared.WideFamily.{WideFamily}
-use Rattle.words.specs.declared.WideFamily.the-variants.{Pairwise, Widening}
+use Rattle.rows.specs.declared.Parameters.{Parameters}
+use Rattle.rows.specs.declared.Family.the-variants.{Wide}
+use Rattle.rows.specs.declared.WideFamily.{WideFamily}
+use Rattle.rows.specs.declared.WideFamily.the-variants.{Pairwise, Widening}
 use Rattle.meaning.specs.Needs.{ExecutableAs}
 use Rattle.widens.specs.Needs.{WideLanes}
 use Rattle.meaning.proofs.Sizes.{wide-eight}

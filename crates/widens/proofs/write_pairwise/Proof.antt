@@ -4,7 +4,7 @@
 use borrow.Author.Needs.{needs}
 use mathlib.Core.Path.{_∙_, ap}
 use Rattle.lanes.specs.Integer.{residue}
-use Rattle.words.specs.declared.WideFamily.the-variants.{Pairwise}
+use Rattle.rows.specs.declared.WideFamily.the-variants.{Pairwise}
 use Rattle.meaning.proofs.Sizes.{governing-in, vector-in}
 use Rattle.widens.proofs.Fed.{holds, governed, placed, written, pairwise-fed}
 use Rattle.widens.proofs.write_pairwise.Statement.{statement}

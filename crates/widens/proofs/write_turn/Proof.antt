@@ -5,8 +5,8 @@ use Prim.Native.Nat.{ℕ}
 use mathlib.Core.Path.{_≡_}
 use Rattle.registers.specs.State.{State}
 use Rattle.words.specs.declared.Fields.{Fields}
-use Rattle.words.specs.declared.Parameters.{Parameters}
-use Rattle.words.specs.declared.WideFamily.{WideFamily}
+use Rattle.rows.specs.declared.Parameters.{Parameters}
+use Rattle.rows.specs.declared.WideFamily.{WideFamily}
 use Rattle.widens.specs.Needs.{WideTurn}
 use Rattle.widens.proofs.write_turn.Statement.{statement}
 use Rattle.widens.proofs.write_turn.Tie as tie

@@ -3,7 +3,7 @@
 use borrow.Author.Needs.{needs}
 use mathlib.Core.Path.{_∙_, ap}
 use Rattle.lanes.specs.Integer.{residue}
-use Rattle.words.specs.declared.WideFamily.the-variants.{Widening}
+use Rattle.rows.specs.declared.WideFamily.the-variants.{Widening}
 use Rattle.meaning.proofs.Sizes.{vector-in, second-most}
 use Rattle.widens.proofs.Fed.{holds, placed, written, widening-fed}
 use Rattle.widens.proofs.write_widening.Statement.{statement}

@@ -4,9 +4,9 @@ use borrow.Author.Needs.{needs}
 use Prim.Native.Nat.{ℕ}
 use mathlib.Core.Path.{_≡_, sym, _∙_, ap}
 use mathlib.Core.Bool.{Bool}
-use Rattle.words.specs.Table.{within, mostReduced, allowsLow}
-use Rattle.words.specs.declared.LowFamily.{LowFamily}
-use Rattle.words.specs.declared.LowFamily.the-variants.{Reduction}
+use Rattle.words.specs.Sizes.{within, mostReduced, allowsLow}
+use Rattle.rows.specs.declared.LowFamily.{LowFamily}
+use Rattle.rows.specs.declared.LowFamily.the-variants.{Reduction}
 use Rattle.words.proofs.allows_low.Statement.{statement}
 use Rattle.words.proofs.allows_low.Tie as tie
 

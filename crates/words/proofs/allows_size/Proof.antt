@@ -4,8 +4,8 @@ use borrow.Author.Needs.{needs}
 use Prim.Native.Nat.{ℕ}
 use mathlib.Core.Path.{_≡_, sym, _∙_, ap}
 use mathlib.Core.Bool.{Bool}
-use Rattle.words.specs.Table.{allowsFamily}
-use Rattle.words.specs.declared.Family.{Family}
+use Rattle.words.specs.Sizes.{allowsFamily}
+use Rattle.rows.specs.declared.Family.{Family}
 use Rattle.words.proofs.allows_size.Statement.{statement}
 use Rattle.words.proofs.allows_size.Tie as tie
 

@@ -4,11 +4,12 @@ use borrow.Author.Needs.{needs}
 use mathlib.Core.Path.{_≡_, sym, _∙_, ap}
 use Prim.Native.Nat.{ℕ, _^_, _<_}
 use Rattle.words.specs.Decode.{decoded, judged, fieldsAt}
-use Rattle.words.specs.Table.{formOf, familyOf, allows}
+use Rattle.rows.specs.Table.{formOf, familyOf}
+use Rattle.words.specs.Sizes.{allows}
 use Rattle.words.specs.Field.{sizePlace, qPlace, sizeDigits, qDigits}
-use Rattle.words.specs.declared.Form.{Form}
+use Rattle.rows.specs.declared.Form.{Form}
 use Rattle.words.specs.declared.Fields.{Fields}
-use Rattle.words.proofs.Digits.{field-below}
+use Rattle.rows.proofs.Digits.{field-below}
 use Rattle.words.proofs.Decoding.{decoded-unknown, decoded-judged, q-below}
 use Rattle.words.proofs.decode.Statement.{statement}
 use Rattle.words.proofs.decode.Tie as tie

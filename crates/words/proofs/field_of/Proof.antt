@@ -5,8 +5,8 @@ use Prim.Native.Nat.{_*_, _/_, _%_, _^_}
 use native.Mathlib.Nat.{mod-le, div-le-self}
 use native.Mathlib.Omega.{arith}
 use lib.Pow.{pow-pos}
-use Rattle.words.specs.Digits.{wordDigits}
-use Rattle.words.proofs.Digits.{one-shifted}
+use Rattle.rows.specs.Digits.{wordDigits}
+use Rattle.rows.proofs.Digits.{one-shifted}
 use Rattle.words.proofs.field_of.Statement.{statement}
 use Rattle.words.proofs.field_of.Tie as tie
 

@@ -3,7 +3,7 @@
 use borrow.Author.Needs.{needs}
 use mathlib.Core.Path.{_≡_, sym, _∙_, ap}
 use lib.ListN.{length}
-use Rattle.words.specs.declared.Row.{Row}
+use Rattle.rows.specs.declared.Row.{Row}
 use Rattle.names.specs.Text.{keyOf}
 use Rattle.names.proofs.Keys.{row-good}
 use Rattle.names.proofs.row.key_of.Statement.{statement}

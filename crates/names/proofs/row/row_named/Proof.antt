@@ -7,7 +7,7 @@ use Prim.Native.Nat.{ℕ, _≤_, _-_}
 use native.Mathlib.Omega.{arith}
 use lib.ListN.{take, drop}
 use Rattle.parts.specs.Part.{sameBytes}
-use Rattle.words.specs.Table.{nameBytes, rows}
+use Rattle.rows.specs.Table.{nameBytes, rows}
 use Rattle.names.specs.Text.{keyOf, keys, keyFrom, rowNamed}
 use Rattle.names.proofs.Keys.{line-key, line-size, key-here, key-next}
 use Rattle.names.proofs.row.row_named.Statement.{statement}

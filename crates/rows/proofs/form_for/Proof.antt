@@ -3,11 +3,11 @@
 use borrow.Author.Needs.{needs}
 use mathlib.Core.Path.{_≡_, sym, _∙_, ap}
 use mathlib.Core.Bool.{Bool}
-use Rattle.words.specs.Table.{formFor}
-use Rattle.words.specs.declared.Form.{Form}
-use Rattle.words.specs.declared.Operation.{Operation}
-use Rattle.words.proofs.form_for.Statement.{statement}
-use Rattle.words.proofs.form_for.Tie as tie
+use Rattle.rows.specs.Table.{formFor}
+use Rattle.rows.specs.declared.Form.{Form}
+use Rattle.rows.specs.declared.Operation.{Operation}
+use Rattle.rows.proofs.form_for.Statement.{statement}
+use Rattle.rows.proofs.form_for.Tie as tie
 
 -- the form of the operation that an arm is for
 told : (operation arm : Operation) (signed top : Bool) (form : Form) → operation ≡ arm → form ≡ formFor arm signed top → form ≡ formFor operation signed top

@@ -6,10 +6,10 @@ use mathlib.Core.Path.{_≡_, sym, _∙_, ap}
 use Prim.Native.Nat.{ℕ, _+_, _-_, _≤_, _<_}
 use native.Mathlib.Omega.{arith}
 use lib.ListN.{List·getD-eq-default}
-use Rattle.words.specs.Table.{table, rows, noRow, rowAt}
-use Rattle.words.proofs.Rows.{row-read}
-use Rattle.words.proofs.row_at.Statement.{statement}
-use Rattle.words.proofs.row_at.Tie as tie
+use Rattle.rows.specs.Table.{table, rows, noRow, rowAt}
+use Rattle.rows.proofs.Rows.{row-read}
+use Rattle.rows.proofs.row_at.Statement.{statement}
+use Rattle.rows.proofs.row_at.Tie as tie
 
 abbrev Inv-loop : tie.InvT-loop
 Inv-loop i lines row₀ j₀ row j = (j ≤ rows) × (row ≡ rowAt (i + (j - i)))

@@ -1,10 +1,10 @@
 -- `matches` meets its contract: the machine's AND of a word is that of its digits.
 -- Assumes nothing.
-use Rattle.words.specs.Digits.{wordDigits}
-use Rattle.words.specs.Table.{matches}
-use Rattle.words.proofs.Digits.{and-digits}
-use Rattle.words.proofs.matches.Statement.{statement}
-use Rattle.words.proofs.matches.Tie as tie
+use Rattle.rows.specs.Digits.{wordDigits}
+use Rattle.rows.specs.Table.{matches}
+use Rattle.rows.proofs.Digits.{and-digits}
+use Rattle.rows.proofs.matches.Statement.{statement}
+use Rattle.rows.proofs.matches.Tie as tie
 
 returns : tie.Need-returns
 unfolding matches

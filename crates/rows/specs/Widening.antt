@@ -3,11 +3,11 @@ use Prim.Native.Nat.{ℕ, _+_, _^_}
 use mathlib.Core.Bool.{Bool, true, false, cond}
 use mathlib.Core.List.{List, [], _∷_, _++_}
 use Rattle.parts.specs.Text.{bytes}
-use Rattle.words.specs.Table.{formFor}
-use Rattle.words.specs.declared.Row.{Row}
-use Rattle.words.specs.declared.Parameters.{Parameters}
-use Rattle.words.specs.declared.Operation.{Operation}
-use Rattle.words.specs.declared.Operation.the-variants.{AddLong, SubLong, AddWide, SubWide}
+use Rattle.rows.specs.Table.{formFor}
+use Rattle.rows.specs.declared.Row.{Row}
+use Rattle.rows.specs.declared.Parameters.{Parameters}
+use Rattle.rows.specs.declared.Operation.{Operation}
+use Rattle.rows.specs.declared.Operation.the-variants.{AddLong, SubLong, AddWide, SubWide}
 
 -- the name: s or u, add or sub, l or w, b or t
 abbrev pub wideningName : Parameters → List ℕ

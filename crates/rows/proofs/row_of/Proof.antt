@@ -5,11 +5,11 @@ use mathlib.Core.Path.{_≡_, refl, sym, _∙_, ap}
 use Prim.Native.Nat.{ℕ, _≤_, _-_}
 use native.Mathlib.Omega.{arith}
 use lib.ListN.{drop}
-use Rattle.words.specs.Table.{table, rows, rowAt, rowOf, matches, placeFrom}
-use Rattle.words.specs.declared.Row.{Row}
-use Rattle.words.proofs.Rows.{row-read, place-here, place-next}
-use Rattle.words.proofs.row_of.Statement.{statement}
-use Rattle.words.proofs.row_of.Tie as tie
+use Rattle.rows.specs.Table.{table, rows, rowAt, rowOf, matches, placeFrom}
+use Rattle.rows.specs.declared.Row.{Row}
+use Rattle.rows.proofs.Rows.{row-read, place-here, place-next}
+use Rattle.rows.proofs.row_of.Statement.{statement}
+use Rattle.rows.proofs.row_of.Tie as tie
 
 abbrev Inv-loop : tie.InvT-loop
 Inv-loop word lines i₀ i = (i ≤ rows) × (placeFrom i (drop i table) word ≡ rowOf word)

@@ -7,7 +7,7 @@ use native.Mathlib.Omega.{arith}
 use lib.Arith.{lt-one}
 use lib.Bits.{bitAnd, and-step, and-mask}
 use lib.Pow.{pow-pos, pow-lt}
-use Rattle.words.specs.Digits.{digitsAnd, field}
+use Rattle.rows.specs.Digits.{digitsAnd, field}
 
 -- a one that is shifted up stays within the digits of its number
 pub one-shifted : (n count : ℕ) → count < n → 1 * 2 ^ count % 2 ^ n ≡ 2 ^ count

@@ -2,10 +2,10 @@
 -- Assumes nothing.
 use borrow.Author.Needs.{needs}
 use mathlib.Core.Path.{_∙_, ap}
-use Rattle.words.specs.Table.{formFor}
-use Rattle.words.specs.declared.Row.{Row}
-use Rattle.words.proofs.form_of.Statement.{statement}
-use Rattle.words.proofs.form_of.Tie as tie
+use Rattle.rows.specs.Table.{formFor}
+use Rattle.rows.specs.declared.Row.{Row}
+use Rattle.rows.proofs.form_of.Statement.{statement}
+use Rattle.rows.proofs.form_of.Tie as tie
 
 returns : tie.Need-returns
 returns c = c .form-for .ensures ∙ ap (λ (r : Row). formFor (r .3) (r .4) (r .5)) (c .before .row-at .ensures)

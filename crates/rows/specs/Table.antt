@@ -1,22 +1,20 @@
--- The words: a line for each with its name, mask, value, operation and elements, its form, and the sizes that it allows.
-use Prim.Native.Nat.{ℕ, suc, _+_, _*_}
+-- The table: a line for each word with its name, mask, value, operation and elements; its form; and the row that a word is of.
+use Prim.Native.Nat.{ℕ, suc}
 use Prim.Native.String.{String}
-use mathlib.Core.Bool.{Bool, true, false, not, cond}
+use mathlib.Core.Bool.{Bool, true, false, cond}
 use mathlib.Core.List.{List, [], _∷_, _++_}
-use lib.Dec.{eqb, leb}
+use lib.Dec.{eqb}
 use lib.ListN.{getD, take}
-use Rattle.parts.specs.Part.{both}
 use Rattle.parts.specs.Text.{bytes}
-use Rattle.words.specs.Digits.{digitsAnd, wordDigits}
-use Rattle.words.specs.declared.Row.{Row}
-use Rattle.words.specs.declared.Form.{Form}
-use Rattle.words.specs.declared.Operation.{Operation}
-use Rattle.words.specs.declared.Operation.the-variants.{Reduce, Segments, Across, Pairs, AddLong, SubLong, AddWide, SubWide}
-use Rattle.words.specs.declared.Family.{Family}
-use Rattle.words.specs.declared.Family.the-variants.{Low, Wide}
-use Rattle.words.specs.declared.LowFamily.{LowFamily}
-use Rattle.words.specs.declared.LowFamily.the-variants.{Reduction, Segment, Long}
-use Rattle.words.specs.declared.WideFamily.the-variants.{Pairwise, Widening}
+use Rattle.rows.specs.Digits.{digitsAnd, wordDigits}
+use Rattle.rows.specs.declared.Row.{Row}
+use Rattle.rows.specs.declared.Form.{Form}
+use Rattle.rows.specs.declared.Operation.{Operation}
+use Rattle.rows.specs.declared.Operation.the-variants.{Reduce, Segments, Across, Pairs, AddLong, SubLong, AddWide, SubWide}
+use Rattle.rows.specs.declared.Family.{Family}
+use Rattle.rows.specs.declared.Family.the-variants.{Low, Wide}
+use Rattle.rows.specs.declared.LowFamily.the-variants.{Reduction, Segment, Long}
+use Rattle.rows.specs.declared.WideFamily.the-variants.{Pairwise, Widening}
 
 -- a name as the table has it: six bytes, with a space where it has five letters
 abbrev pub nameBytes : ℕ
@@ -109,29 +107,3 @@ placeFrom i (r ∷ rs) word = cond (matches r word) i (placeFrom (suc i) rs word
 -- the place of the row that matches a word; `rows` where none does
 unfoldable pub rowOf : ℕ → ℕ
 rowOf word = placeFrom 0 table word
-
--- a size from the least to the most
-abbrev pub within : ℕ → ℕ → ℕ → Bool
-within least most size = both (leb least size) (leb size most)
-
--- the most size of a reduction: 64-bit elements are added unsigned only
-abbrev pub mostReduced : Bool → ℕ
-mostReduced signed = cond signed 2 3
-
--- the long families' sizes, as in the manual: `if size:Q == '100' then UNDEFINED; if size == '11' then UNDEFINED`
-abbrev pub allowsLong : ℕ → ℕ → Bool
-allowsLong q size = both (not (eqb (size * 2 + q) 0b100)) (not (eqb size 0b11))
-
--- the sizes of the families that write the low bytes
-abbrev pub allowsLow : LowFamily → Bool → ℕ → ℕ → Bool
-allowsLow Reduction signed q size = within 0 (mostReduced signed) size
-allowsLow Segment signed q size = within 0 3 size
-allowsLow Long signed q size = allowsLong q size
-
--- the sizes of a form
-abbrev pub allowsFamily : Family → Bool → ℕ → ℕ → Bool
-allowsFamily (Low low) signed q size = allowsLow low signed q size
-allowsFamily (Wide wide) signed q size = within 1 3 size
-
-abbrev pub allows : Form → ℕ → ℕ → Bool
-allows form q size = allowsFamily (form .family) (form .parameters .signed) q size

@@ -9,8 +9,8 @@ use native.Mathlib.Numerals.{add-one}
 use native.Mathlib.Omega.{arith}
 use lib.ListN.{length, getD, drop}
 use lib.Seq.{drop-cons}
-use Rattle.words.specs.Table.{table, noRow, rows, rowAt, rowOf, matches, placeFrom}
-use Rattle.words.specs.declared.Row.{Row}
+use Rattle.rows.specs.Table.{table, noRow, rows, rowAt, rowOf, matches, placeFrom}
+use Rattle.rows.specs.declared.Row.{Row}
 
 -- a place within a list does not go by the value that stands for what is outside
 pub at-any : {A : Type 0} (l : List A) (i : ℕ) (a b : A) → i < length l → getD l i a ≡ getD l i b

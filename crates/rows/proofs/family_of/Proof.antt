@@ -2,9 +2,9 @@
 -- Assumes nothing.
 use borrow.Author.Needs.{needs}
 use mathlib.Core.Path.{ap}
-use Rattle.words.specs.declared.Form.{Form}
-use Rattle.words.proofs.family_of.Statement.{statement}
-use Rattle.words.proofs.family_of.Tie as tie
+use Rattle.rows.specs.declared.Form.{Form}
+use Rattle.rows.proofs.family_of.Statement.{statement}
+use Rattle.rows.proofs.family_of.Tie as tie
 
 returns : tie.Need-returns
 returns c = ap (λ (form : Form). form .family) (c .form-of .ensures)

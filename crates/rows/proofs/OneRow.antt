@@ -7,12 +7,12 @@ use native.Mathlib.Nat.{lt-of-le-of-lt}
 use lib.Dec.{eqb}
 use lib.ListN.{length}
 use borrow.Author.Tests.{eq-eqb, eqb-true}
-use Rattle.words.specs.Digits.{digitsAnd, wordDigits}
-use Rattle.words.specs.Table.{table, rows, rowAt, rowOf, matches}
-use Rattle.words.specs.declared.Row.{Row}
-use Rattle.words.proofs.Digits.{and-swap}
-use Rattle.words.proofs.Every.{every, at-each}
-use Rattle.words.proofs.Rows.{row-matches, row-no-later}
+use Rattle.rows.specs.Digits.{digitsAnd, wordDigits}
+use Rattle.rows.specs.Table.{table, rows, rowAt, rowOf, matches}
+use Rattle.rows.specs.declared.Row.{Row}
+use Rattle.rows.proofs.Digits.{and-swap}
+use Rattle.rows.proofs.Every.{every, at-each}
+use Rattle.rows.proofs.Rows.{row-matches, row-no-later}
 
 -- the table has as many rows as are named
 pub rows-counted : length table ≡ rows

@@ -2,8 +2,8 @@
 -- Assumes nothing.
 use mathlib.Core.Path.{_≡_, refl}
 use lib.ListN.{drop}
-use Rattle.words.specs.Table.{table}
-use Rattle.words.specs.Widening.{wideningRows}
+use Rattle.rows.specs.Table.{table}
+use Rattle.rows.specs.Widening.{wideningRows}
 
 pub widening-rows : drop 7 table ≡ wideningRows
 widening-rows = refl
