@@ -22,9 +22,9 @@ use Rattle.rows.specs.declared.Family.the-variants.{Low}
 use Rattle.rows.specs.declared.LowFamily.the-variants.{Reduction, Segment}
 use Rattle.sums.specs.Sums.{laneSum}
 use Rattle.sums.specs.Panel.{perSegment, rowsSum, panelOf, noPanel}
-use Rattle.sums.specs.Calls.{panelRefused, panelAnswer, subtotalAnswer}
-use Rattle.sums.proofs.Accepted.{panel-done, panel-accepted, whole-segments}
-use Rattle.sums.proofs.Answers.{subtotal-of-all}
+use Rattle.totals.specs.Calls.{panelRefused, panelAnswer, subtotalAnswer}
+use Rattle.totals.proofs.Accepted.{panel-done, panel-accepted, whole-segments}
+use Rattle.totals.proofs.Answers.{subtotal-of-all}
 use Rattle.sums.proofs.Columns.{addqv-is-column-sums}
 use Rattle.meaning.specs.Execute.{operandsOf, maskOf, destinationAfter, writtenFor, executed}
 use Rattle.meaning.specs.Needs.{Executable}

@@ -30,7 +30,7 @@ use Rattle.rows.specs.declared.LowFamily.the-variants.{Reduction, Segment, Long
 use Rattle.rows.specs.declared.WideFamily.the-variants.{Pairwise, Widening}
 use Rattle.sums.specs.Sums.{Governed, AgreeAt}
 use Rattle.sums.specs.Panel.{perSegment, FillsSegment}
-use Rattle.sums.proofs.Accepted.{width-legal}
+use Rattle.sums.proofs.Widths.{width-legal}
 use Rattle.sums.proofs.Matters.{same-active}
 use Rattle.sums.proofs.Rows.{lane-inside, lane-place}
 use Rattle.meaning.specs.Terms.{Operands, Term, elementAdded, sumOf, governedTerm}

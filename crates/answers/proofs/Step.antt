@@ -21,7 +21,7 @@ use Rattle.rows.specs.declared.Family.the-variants.{Low, Wide}
 use Rattle.rows.specs.declared.LowFamily.the-variants.{Reduction, Segment}
 use Rattle.rows.specs.declared.WideFamily.the-variants.{Pairwise, Widening}
 use Rattle.sums.specs.Panel.{perSegment, rowsSum}
-use Rattle.sums.specs.Calls.{panelAnswer, subtotalAnswer}
+use Rattle.totals.specs.Calls.{panelAnswer, subtotalAnswer}
 use Rattle.meaning.specs.Terms.{negatedWhere}
 use Rattle.meaning.specs.Execute.{destinationAfter, integerAfter, widthFor, lanesFor, executed}
 use Rattle.meaning.specs.Theorems.{isExact, answerSigned, element1, element2, isGoverned, governedOf, Agree}

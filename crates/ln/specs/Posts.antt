@@ -4,7 +4,7 @@ use mathlib.Core.Path.{_≡_}
 use mathlib.Core.List.{List}
 use Rattle.words.specs.Decode.{decoded}
 use Rattle.programs.specs.Word.{nextWord}
-use Rattle.sums.specs.Calls.{subtotalAnswer}
+use Rattle.totals.specs.Calls.{subtotalAnswer}
 use Rattle.journal.specs.Calls.{positionAnswer}
 use Rattle.session.specs.Layout.{sessionOf}
 use Rattle.ln.specs.declared.LnAnswer.{LnAnswer}

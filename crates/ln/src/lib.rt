@@ -145,7 +145,7 @@ pub extern "C" fn ln_subtotal(
     ensures { λ r. ⌜ Subtotalled k (now (z .entry)) (now (p .entry)) source governing size «is_signed» a b r ⌝ }
 {
     let signed = is_signed != 0;
-    let answer = sums::subtotal(k, z, p, source, governing, size, signed, a, b);
+    let answer = totals::subtotal(k, z, p, source, governing, size, signed, a, b);
     LnAnswer {
         number: answer.number as u64,
         value: answer.value,
@@ -343,10 +343,10 @@ pub extern "C" fn ln_panel(
     if out.len() < PANEL_BYTES {
         return refusal::OUT as u64;
     }
-    let refused = sums::panel_refusal(k, z, p, source, governing, size);
+    let refused = totals::panel_refusal(k, z, p, source, governing, size);
     if refused != refusal::DONE {
         return refused as u64;
     }
-    write_rows(out, sums::panel(k, z, p, source, governing, size));
+    write_rows(out, totals::panel(k, z, p, source, governing, size));
     refusal::DONE as u64
 }

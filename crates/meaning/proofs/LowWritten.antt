@@ -23,7 +23,7 @@ use Rattle.rows.specs.declared.Family.the-variants.{Low}
 use Rattle.rows.specs.declared.LowFamily.the-variants.{Reduction, Segment, Long}
 use Rattle.sums.specs.Sums.{laneSum}
 use Rattle.sums.specs.Panel.{perSegment, columnElement, columnSum}
-use Rattle.sums.proofs.Accepted.{width-legal}
+use Rattle.sums.proofs.Widths.{width-legal}
 use Rattle.meaning.specs.Terms.{sumOf, reductionTerms, segmentTerms, longTerms, dataBytes}
 use Rattle.meaning.specs.Execute.{operandsOf, maskOf, writtenFor}
 use Rattle.meaning.specs.Needs.{Executable}

@@ -26,7 +26,7 @@ use Rattle.rows.specs.declared.LowFamily.{LowFamily}
 use Rattle.rows.specs.declared.LowFamily.the-variants.{Reduction, Segment, Long}
 use Rattle.rows.specs.declared.WideFamily.{WideFamily}
 use Rattle.sums.specs.Sums.{Governs}
-use Rattle.sums.proofs.Accepted.{width-legal}
+use Rattle.sums.proofs.Widths.{width-legal}
 use Rattle.meaning.specs.Meaning.{lowWidth, widthAfter, lowLanes, lanesAfter}
 use Rattle.meaning.specs.Execute.{widthFor, lanesFor, writtenFor, destinationAfter}
 use Rattle.meaning.specs.Needs.{Executable}

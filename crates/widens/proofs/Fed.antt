@@ -15,7 +15,7 @@ use Rattle.rows.specs.declared.Parameters.{Parameters}
 use Rattle.rows.specs.declared.WideFamily.{WideFamily}
 use Rattle.rows.specs.declared.WideFamily.the-variants.{Pairwise, Widening}
 use Rattle.sums.specs.Sums.{Governs}
-use Rattle.sums.proofs.Accepted.{width-legal}
+use Rattle.sums.proofs.Widths.{width-legal}
 use Rattle.meaning.specs.Terms.{sumOf, pairwiseTerms, wideningTerms}
 use Rattle.meaning.specs.Execute.{integerAfter, laneWritten}
 use Rattle.meaning.specs.Needs.{Executable}

@@ -33,7 +33,7 @@ use Rattle.rows.specs.declared.Parameters.{Parameters}
 use Rattle.rows.specs.declared.Family.the-variants.{Wide}
 use Rattle.rows.specs.declared.WideFamily.{WideFamily}
 use Rattle.rows.specs.declared.WideFamily.the-variants.{Pairwise, Widening}
-use Rattle.sums.proofs.Accepted.{width-legal}
+use Rattle.sums.proofs.Widths.{width-legal}
 use Rattle.meaning.specs.Terms.{Operands, Source, Operand1, Operand2, Old, operandOf, elementOf, sumOf, selected, firstTerm}
 use Rattle.meaning.specs.Meaning.{wideTerms}
 use Rattle.meaning.specs.Execute.{operandsOf, maskOf, integerAfter, laneWritten, executed}

@@ -9,7 +9,7 @@ use Rattle.registers.specs.Register.{padded}
 use Rattle.words.proofs.Decoding.{q-below}
 use Rattle.rows.specs.Table.{familyOf}
 use Rattle.rows.specs.declared.Family.the-variants.{Low}
-use Rattle.sums.proofs.Accepted.{width-legal}
+use Rattle.sums.proofs.Widths.{width-legal}
 use Rattle.meaning.proofs.Sizes.{k-least, k-most, governing-in, vector-in, vector-length, governs}
 use Rattle.meaning.proofs.LowWritten.{written-reduction, written-segment, written-long}
 use Rattle.reduces.proofs.low_bytes.Statement.{statement}

@@ -14,9 +14,9 @@ use Rattle.machine.specs.Refusal.{DONE, First, inOrder, answer}
 use Rattle.machine.specs.declared.Answer.{Answer}
 use Rattle.machine.proofs.Tests.{first-exactly, one-result, refused-later}
 use Rattle.lanes.specs.Lane.{widthOf}
 use Rattle.sums.specs.Sums.{laneSum}
-use Rattle.sums.specs.Calls.{panelTests, panelRefused, panelAnswer, subtotalTests, subtotalRefused, subtotalAnswer}
+use Rattle.totals.specs.Calls.{panelTests, panelRefused, panelAnswer, subtotalTests, subtotalRefused, subtotalAnswer}
 use Rattle.sums.proofs.Ranges.{sum-none}
 
 -- with 0 as the value, an answer's value is 0
 zero-value : (n v : ℕ) → v ≡ 0 → answer n v .value ≡ 0

@@ -7,10 +7,10 @@ use Rattle.machine.specs.Size.{vectorBytes}
 use Rattle.machine.specs.Refusal.{DONE}
 use Rattle.machine.proofs.Tests.{refused-answer, done-answer}
 use Rattle.lanes.specs.Lane.{widthOf}
-use Rattle.sums.specs.Calls.{subtotalRefused}
-use Rattle.sums.proofs.Accepted.{Accepted, subtotal-accepted, source-in, predicate-in, governs, lanes-within}
-use Rattle.sums.proofs.subtotal.Statement.{statement}
-use Rattle.sums.proofs.subtotal.Tie as tie
+use Rattle.totals.specs.Calls.{subtotalRefused}
+use Rattle.totals.proofs.Accepted.{Accepted, subtotal-accepted, source-in, predicate-in, governs, lanes-within}
+use Rattle.totals.proofs.subtotal.Statement.{statement}
+use Rattle.totals.proofs.subtotal.Tie as tie
 
 -- where the function starts, and where the test is past
 abbrev start : tie.After-subtotal-refusal → tie.Start

@@ -11,10 +11,11 @@ use Rattle.machine.specs.Refusal.{refused, rangeTest}
 use Rattle.machine.proofs.Tests.{refused-early, refused-later}
 use Rattle.machine.proofs.Checks.{legal-most}
 use Rattle.lanes.specs.Lane.{widthOf}
-use Rattle.sums.specs.Calls.{laneRange, panelTests, subtotalRefused}
-use Rattle.sums.proofs.Accepted.{Accepted, panel-accepted, width-legal}
-use Rattle.sums.proofs.subtotal_refusal.Statement.{statement}
-use Rattle.sums.proofs.subtotal_refusal.Tie as tie
+use Rattle.totals.specs.Calls.{laneRange, panelTests, subtotalRefused}
+use Rattle.sums.proofs.Widths.{width-legal}
+use Rattle.totals.proofs.Accepted.{Accepted, panel-accepted}
+use Rattle.totals.proofs.subtotal_refusal.Statement.{statement}
+use Rattle.totals.proofs.subtotal_refusal.Tie as tie
 
 -- where the function starts, and where the first test is past
 abbrev start : tie.After-panel-refusal → tie.Start

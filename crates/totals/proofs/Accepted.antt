@@ -1,6 +1,6 @@
 -- What the tests of the calls tell: where none is given, the registers have their sizes and the lanes their places.
 -- Assumes nothing.
-use Prim.Native.Nat.{ℕ, zero, suc, _*_, _/_, _≤_, _<_}
+use Prim.Native.Nat.{ℕ, _*_, _/_, _≤_, _<_}
 use mathlib.Core.Path.{_≡_, refl}
 use mathlib.Core.List.{List}
 use native.Mathlib.Nat.{le-div-iff-mul-le}
@@ -18,17 +18,10 @@ use Rattle.registers.specs.Register.{vectorOf, predicateOf, InFile}
 use Rattle.registers.specs.declared.Kind.the-variants.{Vector, Predicate}
 use Rattle.registers.proofs.Places.{in-files, length-register}
 use Rattle.lanes.specs.Lane.{widthOf}
 use Rattle.sums.specs.Sums.{Governs}
-use Rattle.sums.specs.Panel.{FillsSegment, WholeSegments}
-use Rattle.sums.specs.Calls.{inRange, laneRange, panelTests, panelRefused, subtotalTests, subtotalRefused}
-
--- lanes of each size have 1 to 8 bytes and fill a segment
-pub width-legal : (size : ℕ) → size < sizes → (1 ≤ widthOf size) × (widthOf size ≤ 8) × FillsSegment (widthOf size)
-width-legal zero h = (omega arith, omega arith, refl)
-width-legal (suc zero) h = (omega arith, omega arith, refl)
-width-legal (suc (suc zero)) h = (omega arith, omega arith, refl)
-width-legal (suc (suc (suc zero))) h = (omega arith, omega arith, refl)
-width-legal (suc (suc (suc (suc n)))) h = absurd (omega arith)
+use Rattle.sums.specs.Panel.{WholeSegments}
+use Rattle.sums.proofs.Widths.{width-legal}
+use Rattle.totals.specs.Calls.{inRange, laneRange, panelTests, panelRefused, subtotalTests, subtotalRefused}
 
 -- what the calls work from: a legal length, files of its sizes, and a source, a predicate and a size that there are
 pub record Accepted (k : ℕ) (z p : List ℕ) (source predicate size : ℕ) : Type 0 where

@@ -8,9 +8,9 @@ use mathlib.Core.List.{[], _∷_}
 use lib.ListN.{length}
 use Rattle.machine.specs.Refusal.{refused, filesTests, rangeTest}
 use Rattle.machine.proofs.Tests.{refused-early, refused-later}
-use Rattle.sums.specs.Calls.{inRange, panelRefused}
-use Rattle.sums.proofs.panel_refusal.Statement.{statement}
-use Rattle.sums.proofs.panel_refusal.Tie as tie
+use Rattle.totals.specs.Calls.{inRange, panelRefused}
+use Rattle.totals.proofs.panel_refusal.Statement.{statement}
+use Rattle.totals.proofs.panel_refusal.Tie as tie
 
 -- where the function starts
 abbrev start : tie.After-check-files → tie.Start

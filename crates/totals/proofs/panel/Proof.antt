@@ -3,10 +3,11 @@
 use borrow.Author.Needs.{needs}
 use mathlib.Core.Path.{sym, _∙_}
 use Rattle.machine.proofs.Tests.{kept, left}
 use Rattle.sums.specs.Panel.{noPanel}
-use Rattle.sums.proofs.Accepted.{Accepted, panel-accepted, source-in, predicate-in, governs, whole-segments, width-legal}
-use Rattle.sums.proofs.panel.Statement.{statement}
-use Rattle.sums.proofs.panel.Tie as tie
+use Rattle.sums.proofs.Widths.{width-legal}
+use Rattle.totals.proofs.Accepted.{Accepted, panel-accepted, source-in, predicate-in, governs, whole-segments}
+use Rattle.totals.proofs.panel.Statement.{statement}
+use Rattle.totals.proofs.panel.Tie as tie
 
 -- where the function starts, and where the test is past
 abbrev start : tie.After-panel-refusal → tie.Start
