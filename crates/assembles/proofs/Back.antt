@@ -25,10 +25,11 @@ use Rattle.words.specs.declared.Fields.{Fields}
 use Rattle.rows.proofs.Every.{every, at-each}
 use Rattle.digits.specs.Digits.{decimal}
 use Rattle.digits.proofs.Decimals.{decimal-least}
-use Rattle.names.specs.declared.Suffix.{Suffix}
-use Rattle.names.specs.declared.Suffix.the-variants.{Lane}
-use Rattle.names.specs.declared.Operand.{Operand}
-use Rattle.names.specs.Text.{keyOf, nameOf, keyFrom, rowNamed, letters, letterOf, lanesOf, suffixText, listed, destinationOperand, governingOperand, sourceOperand, operandsNamed, textOf}
+use Rattle.operands.specs.declared.Suffix.{Suffix}
+use Rattle.operands.specs.declared.Suffix.the-variants.{Lane}
+use Rattle.operands.specs.declared.Operand.{Operand}
+use Rattle.operands.specs.Operands.{letters, letterOf, lanesOf, suffixText, destinationOperand, governingOperand, sourceOperand}
+use Rattle.names.specs.Text.{keyOf, nameOf, keyFrom, rowNamed, listed, operandsNamed, textOf}
 use Rattle.assembles.specs.Reading.{pastSpace, numberIn, fromEnd, placeOf, sizeIn, firstIn, secondIn, thirdIn, fields, readAs, fieldsFrom}
 use Rattle.assembles.proofs.Free.{free-letter, past-operand, past-name}
 use Rattle.assembles.proofs.Numbers.{listed-number}

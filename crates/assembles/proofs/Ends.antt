@@ -13,9 +13,10 @@ use Rattle.machine.specs.Size.{sizes}
 use Rattle.rows.proofs.Every.{every, at-each}
 use Rattle.digits.specs.Digits.{digitOf, digitsIn, decimalWidth, decimal}
 use Rattle.digits.proofs.Decimals.{digits-length, decimal-least}
-use Rattle.names.specs.declared.Suffix.the-variants.{Lane, Lanes}
-use Rattle.names.specs.declared.Operand.{Operand}
-use Rattle.names.specs.Text.{letters, letterOf, lanesOf, suffixText, operandText, listed}
+use Rattle.operands.specs.declared.Suffix.the-variants.{Lane, Lanes}
+use Rattle.operands.specs.declared.Operand.{Operand}
+use Rattle.operands.specs.Operands.{letters, letterOf, lanesOf, suffixText, operandText}
+use Rattle.names.specs.Text.{listed}
 use Rattle.assembles.specs.Reading.{fromEnd, placeOf, fullDigits}
 
 -- the end of two lists is that of the second

@@ -12,10 +12,11 @@ use Rattle.parts.specs.Text.{bytes}
 use Rattle.rows.specs.Table.{rows, rowAt}
 use Rattle.rows.proofs.Every.{every, at-each}
 use Rattle.digits.specs.Digits.{digitOf, digitsIn, decimalWidth, decimal}
-use Rattle.names.specs.declared.Suffix.{Suffix}
-use Rattle.names.specs.declared.Suffix.the-variants.{Plain, Lane, Lanes, Merging}
-use Rattle.names.specs.declared.Operand.{Operand}
-use Rattle.names.specs.Text.{keyOf, nameOf, letterOf, suffixText, operandText, listed}
+use Rattle.operands.specs.declared.Suffix.{Suffix}
+use Rattle.operands.specs.declared.Suffix.the-variants.{Plain, Lane, Lanes, Merging}
+use Rattle.operands.specs.declared.Operand.{Operand}
+use Rattle.operands.specs.Operands.{letterOf, suffixText, operandText}
+use Rattle.names.specs.Text.{keyOf, nameOf, listed}
 use Rattle.assembles.specs.Reading.{pastSpace}
 
 -- bytes with no space among them

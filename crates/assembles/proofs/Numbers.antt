@@ -14,10 +14,11 @@ use Rattle.parts.proofs.Same.{both-left, both-right}
 use Rattle.rows.proofs.Every.{every, at-each}
 use Rattle.digits.specs.Digits.{digitOf, decimalWidth, decimal}
 use Rattle.digits.proofs.Decimals.{width-least, width-below, decimal-holds, decimal-one, decimal-two}
-use Rattle.names.specs.declared.Suffix.{Suffix}
-use Rattle.names.specs.declared.Suffix.the-variants.{Plain, Lane, Lanes, Merging}
-use Rattle.names.specs.declared.Operand.{Operand}
-use Rattle.names.specs.Text.{suffixText, following, listed}
+use Rattle.operands.specs.declared.Suffix.{Suffix}
+use Rattle.operands.specs.declared.Suffix.the-variants.{Plain, Lane, Lanes, Merging}
+use Rattle.operands.specs.declared.Operand.{Operand}
+use Rattle.operands.specs.Operands.{suffixText}
+use Rattle.names.specs.Text.{following, listed}
 use Rattle.assembles.specs.Reading.{worth, isDigit, numberIn}
 
 -- a digit is one, and is worth its value

@@ -18,7 +18,8 @@ use Rattle.rows.specs.declared.Family.the-variants.{Low, Wide}
 use Rattle.rows.specs.declared.LowFamily.the-variants.{Reduction, Segment, Long}
 use Rattle.rows.specs.declared.WideFamily.the-variants.{Pairwise, Widening}
 use Rattle.words.specs.declared.Fields.{Fields}
-use Rattle.names.specs.Text.{rowNamed, letters}
+use Rattle.operands.specs.Operands.{letters}
+use Rattle.names.specs.Text.{rowNamed}
 
 -- what follows the first space
 unfoldable pub pastSpace : List ℕ → List ℕ

@@ -15,7 +15,7 @@ ghost use Prim.Native.Nat.{_*_, _%_, _≤_, _^_};
 ghost use lib.ListN.{length, getD, drop};
 ghost use Rattle.machine.specs.Size.{sizes};
 ghost use Rattle.words.specs.Field.{registerDigits, qPlace};
-ghost use Rattle.names.specs.Text.{letters};
+ghost use Rattle.operands.specs.Operands.{letters};
 ghost use Rattle.assembles.specs.Reading.{PastSpace, worth, isDigit, numberIn, fromEnd, placeOf, sizeIn, fullDigits, qIn, fields, byFamily, fieldsFrom, wordOf};
 ghost use Rattle.assembles.specs.Assembled.{Assembled};
 

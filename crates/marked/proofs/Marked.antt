@@ -6,7 +6,8 @@ use Rattle.rows.specs.Digits.{digitsAnd}
 use Rattle.rows.specs.Table.{rowAt, matches, placeFrom, rowOf}
 use Rattle.words.specs.Decode.{decoded}
 use Rattle.digits.specs.Digits.{digitOf, digitsIn, widthWithin, decimalWidth}
-use Rattle.names.specs.Text.{keyOf, nameOf, letterOf, textOf}
+use Rattle.operands.specs.Operands.{letterOf}
+use Rattle.names.specs.Text.{keyOf, nameOf, textOf}
 use Rattle.marked.specs.Cases.{cases, outcome, expected}
 
 pub marked-cases : map outcome cases ≡ map expected cases

@@ -7,7 +7,8 @@ use Rattle.rows.specs.Digits.{digitsAnd}
 use Rattle.rows.specs.Table.{rowAt, rowOf, matches, placeFrom}
 use Rattle.words.specs.Decode.{decoded}
 use Rattle.digits.specs.Digits.{digitOf, digitsIn, widthWithin, decimalWidth}
-use Rattle.names.specs.Text.{keyOf, nameOf, letterOf, textOf}
+use Rattle.operands.specs.Operands.{letterOf}
+use Rattle.names.specs.Text.{keyOf, nameOf, textOf}
 use Rattle.names.specs.Named.{textOfWord}
 
 pub example-texts : map textOfWord

@@ -30,8 +30,9 @@ use Rattle.rows.proofs.Every.{every, at-each}
 use Rattle.digits.specs.Digits.{digitOf, digitsIn, widthWithin, decimalWidth, decimal}
 use Rattle.digits.proofs.Puts.{room-first}
 use Rattle.digits.proofs.Decimals.{decimal-short}
-use Rattle.names.specs.declared.Operand.{Operand}
-use Rattle.names.specs.Text.{keyOf, nameOf, letterOf, lanesOf, operandText, whereIn, further, following, listed, destinationOperand, governingOperand, sourceOperand, operandsNamed, textOf}
+use Rattle.operands.specs.declared.Operand.{Operand}
+use Rattle.operands.specs.Operands.{letterOf, lanesOf, operandText, further, destinationOperand, governingOperand, sourceOperand}
+use Rattle.names.specs.Text.{keyOf, nameOf, whereIn, following, listed, operandsNamed, textOf}
 use Rattle.names.specs.Named.{leastOut, mostText, textOfDecoded, textOfWord}
 use Rattle.names.proofs.Keys.{row-good}
 
@@ -50,10 +51,6 @@ pieces family wide f =
 following-where : (digits : ℕ) (o : Operand) (os : List Operand) → following (whereIn digits o os) ≡ further digits o ++ following os
 following-where zero o os = refl
 following-where (suc digits) o os = refl
-
-pub further-some : (digits : ℕ) (o : Operand) → (digits ≡ 0 → ⊥) → further digits o ≡ bytes ", " ++ operandText o
-further-some zero o h = absurd (h refl)
-further-some (suc digits) o h = refl
 
 regroup : (a t u v w : List ℕ) → a ++ (t ++ (u ++ (v ++ (w ++ [])))) ≡ a ++ t ++ u ++ v ++ w
 regroup a t u v w = simp (append-assoc, append-nil)

@@ -1,25 +1,20 @@
 -- How a word reads: the name, one space, and the operands, comma and space between them.
 use mathlib.Core.Path.{_≡_}
-use Prim.Native.Nat.{ℕ, zero, suc, _+_, _*_, _-_, _/_, _^_}
+use Prim.Native.Nat.{ℕ, zero, suc}
 use Prim.Native.Char.{code}
 use mathlib.Core.Bool.{Bool, false, cond}
 use mathlib.Core.List.{List, [], _∷_, _++_, map}
 use lib.Dec.{eqb}
-use lib.ListN.{getD, take, length}
+use lib.ListN.{take, length}
 use Rattle.parts.specs.Part.{sameBytes}
 use Rattle.parts.specs.Text.{bytes}
 use Rattle.rows.specs.Table.{nameBytes, table, rowAt, familyOf, formOf}
 use Rattle.words.specs.Field.{governingDigits, secondDigits}
 use Rattle.rows.specs.declared.Row.{Row}
 use Rattle.rows.specs.declared.Family.{Family}
-use Rattle.rows.specs.declared.Family.the-variants.{Low, Wide}
-use Rattle.rows.specs.declared.LowFamily.the-variants.{Reduction, Segment, Long}
-use Rattle.rows.specs.declared.WideFamily.the-variants.{Pairwise, Widening}
 use Rattle.words.specs.declared.Fields.{Fields}
-use Rattle.digits.specs.Digits.{decimal}
-use Rattle.names.specs.declared.Suffix.{Suffix}
-use Rattle.names.specs.declared.Suffix.the-variants.{Plain, Lane, Lanes, Merging}
-use Rattle.names.specs.declared.Operand.{Operand}
+use Rattle.operands.specs.declared.Operand.{Operand}
+use Rattle.operands.specs.Operands.{operandText, destinationOperand, governingOperand, sourceOperand}
 
 -- the first six bytes of a text of a row: a name of five letters has its space among them
 unfoldable pub keyOf : ℕ → List ℕ
@@ -51,51 +46,6 @@ keyFrom i (k ∷ ks) bytes = cond (sameBytes k bytes) i (keyFrom (suc i) ks byte
 unfoldable pub rowNamed : List ℕ → ℕ
 rowNamed text = keyFrom 0 keys (take nameBytes text)
 
--- the letter of each size
-abbrev pub letters : List ℕ
-letters = bytes "bhsd"
-
-unfoldable pub letterOf : ℕ → ℕ
-letterOf size = getD letters size 0
-
--- how many lanes of a size the low 8 bytes (Q = 0) or 16 bytes (Q = 1) have
-abbrev pub lanesOf : ℕ → ℕ → ℕ
-lanesOf q size = 8 * 2 ^ q / 2 ^ size
-
--- what follows a register's number: nothing, the lanes' size, their count and size, or that inactive lanes merge
-abbrev pub suffixText : Suffix → List ℕ
-suffixText Plain = []
-suffixText (Lane size) = code "." ∷ letterOf size ∷ []
-suffixText (Lanes count size) = code "." ∷ decimal count ++ letterOf size ∷ []
-suffixText Merging = bytes "/m"
-
--- a register: its letter, its number, and what follows
-abbrev pub operand : ℕ → ℕ → Suffix → Operand
-operand l n s = record { letter = l; number = n; suffix = s }
-
-abbrev pub operandText : Operand → List ℕ
-operandText o = o .letter ∷ decimal (o .number) ++ suffixText (o .suffix)
-
--- the destination
-abbrev pub destinationOperand : Family → Fields → Operand
-destinationOperand (Low Reduction) f = operand (code "d") (f .d) Plain
-destinationOperand (Low Segment) f = operand (code "v") (f .d) (Lanes (lanesOf 1 (f .size)) (f .size))
-destinationOperand (Low Long) f = operand (letterOf (f .size + 1)) (f .d) Plain
-destinationOperand (Wide wide) f = operand (code "z") (f .d) (Lane (f .size))
-
--- the governing predicate
-abbrev pub governingOperand : Family → Fields → Operand
-governingOperand (Low low) f = operand (code "p") (f .g) Plain
-governingOperand (Wide wide) f = operand (code "p") (f .g) Merging
-
--- a source of a number; that of a word that writes every lane has half the width, but in a widening word it may have the full one
-abbrev pub sourceOperand : Family → Bool → ℕ → Fields → Operand
-sourceOperand (Low Reduction) full number f = operand (code "z") number (Lane (f .size))
-sourceOperand (Low Segment) full number f = operand (code "z") number (Lane (f .size))
-sourceOperand (Low Long) full number f = operand (code "v") number (Lanes (lanesOf (f .q) (f .size)) (f .size))
-sourceOperand (Wide Pairwise) full number f = operand (code "z") number (Lane (f .size - 1))
-sourceOperand (Wide Widening) full number f = operand (code "z") number (Lane (cond full (f .size) (f .size - 1)))
-
 -- an operand before others, where its field has digits
 abbrev pub whereIn : ℕ → Operand → List Operand → List Operand
 whereIn zero o os = os
@@ -113,11 +63,6 @@ operandsNamed family wide f =
 abbrev pub following : List Operand → List ℕ
 following [] = []
 following (o ∷ os) = bytes ", " ++ operandText o ++ following os
-
--- one of them, where its field has digits
-abbrev pub further : ℕ → Operand → List ℕ
-further zero o = []
-further (suc digits) o = bytes ", " ++ operandText o
 
 -- operands, comma and space between them
 abbrev pub listed : List Operand → List ℕ

@@ -7,7 +7,8 @@ use Prim.Native.Nat.{ℕ}
 use lib.ListN.{drop}
 use Rattle.rows.specs.Table.{familyOf}
 use Rattle.rows.specs.declared.Family.{Family}
-use Rattle.names.specs.Text.{rowNamed, letters}
+use Rattle.operands.specs.Operands.{letters}
+use Rattle.names.specs.Text.{rowNamed}
 use Rattle.assembles.specs.Reading.{pastSpace, numberIn, fromEnd, sizeIn, qIn, byFamily, fieldsFrom}
 use Rattle.assembles.proofs.Scan.{place-most}
 use Rattle.assembles.proofs.read_fields.Statement.{statement}

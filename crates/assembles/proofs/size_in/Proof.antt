@@ -2,7 +2,7 @@
 -- Assumes nothing.
 use mathlib.Core.Path.{_∙_, ap}
 use Prim.Native.Nat.{ℕ}
-use Rattle.names.specs.Text.{letters}
+use Rattle.operands.specs.Operands.{letters}
 use Rattle.assembles.specs.Reading.{placeOf}
 use borrow.Author.Needs.{needs}
 use Rattle.assembles.proofs.size_in.Statement.{statement}

@@ -6,7 +6,7 @@ use Rattle.machine.specs.Size.{sizes}
 use Rattle.rows.specs.Table.{familyOf}
 use Rattle.words.proofs.Decoding.{q-below}
 use Rattle.digits.proofs.Puts.{put-then, put-length, room-rest}
-use Rattle.names.specs.Text.{operandText, further}
+use Rattle.operands.specs.Operands.{operandText, further}
 use Rattle.names.proofs.Pieces.{text-written, room-one, room-two, room-three, room-four}
 use Rattle.names.proofs.put_text.Statement.{statement}
 use Rattle.names.proofs.put_text.Tie as tie

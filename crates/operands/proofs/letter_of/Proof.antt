@@ -3,9 +3,9 @@
 use borrow.Author.Needs.{needs}
 use mathlib.Core.Path.{refl, sym}
 use lib.ListN.{List·getD-eq-default}
-use Rattle.names.specs.Text.{letters, letterOf}
-use Rattle.names.proofs.letter_of.Statement.{statement}
-use Rattle.names.proofs.letter_of.Tie as tie
+use Rattle.operands.specs.Operands.{letters, letterOf}
+use Rattle.operands.proofs.letter_of.Statement.{statement}
+use Rattle.operands.proofs.letter_of.Tie as tie
 
 returns : tie.Need-returns
 unfolding letterOf

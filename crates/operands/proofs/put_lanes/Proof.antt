@@ -5,9 +5,9 @@ use mathlib.Core.List.{[], _∷_, _++_}
 use native.Mathlib.Omega.{arith}
 use Rattle.digits.specs.Digits.{decimal}
 use Rattle.digits.proofs.Puts.{put-then, room-first, room-rest}
-use Rattle.names.specs.Text.{letterOf}
-use Rattle.names.proofs.put_lanes.Statement.{statement}
-use Rattle.names.proofs.put_lanes.Tie as tie
+use Rattle.operands.specs.Operands.{letterOf}
+use Rattle.operands.proofs.put_lanes.Statement.{statement}
+use Rattle.operands.proofs.put_lanes.Tie as tie
 
 -- where the function starts, where the point is written, and where the count is
 abbrev start : tie.After-put → tie.Start

@@ -5,8 +5,8 @@ use mathlib.Core.Path.{ap}
 use Prim.Native.Nat.{ℕ, _/_, _^_}
 use native.Mathlib.Omega.{arith}
 use lib.Pow.{shl-exact}
-use Rattle.names.proofs.lanes_of.Statement.{statement}
-use Rattle.names.proofs.lanes_of.Tie as tie
+use Rattle.operands.proofs.lanes_of.Statement.{statement}
+use Rattle.operands.proofs.lanes_of.Tie as tie
 
 returns : tie.Need-returns
 returns c = ap (λ (x : ℕ). x / 2 ^ (c .args .size)) (shl-exact 4 (c .args .q) 64 (omega arith) (omega arith))

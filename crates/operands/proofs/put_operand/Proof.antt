@@ -4,9 +4,9 @@ use borrow.Author.Needs.{needs}
 use mathlib.Core.List.{_++_}
 use Rattle.digits.specs.Digits.{decimal}
 use Rattle.digits.proofs.Puts.{put-then, room-first, room-rest}
-use Rattle.names.specs.Text.{suffixText}
-use Rattle.names.proofs.put_operand.Statement.{statement}
-use Rattle.names.proofs.put_operand.Tie as tie
+use Rattle.operands.specs.Operands.{suffixText}
+use Rattle.operands.proofs.put_operand.Statement.{statement}
+use Rattle.operands.proofs.put_operand.Tie as tie
 
 -- where the function starts, where the letter is written, and where the number is
 abbrev start : tie.After-put → tie.Start

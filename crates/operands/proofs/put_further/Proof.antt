@@ -1,15 +1,21 @@
 -- `put_further` meets its contract: nothing where the field has no digits, else the comma, the space and the operand.
 -- Assumes nothing.
 use borrow.Author.Needs.{needs}
+use mathlib.Core.Path.{_≡_, refl}
 use mathlib.Core.List.{_++_}
-use Prim.Native.Nat.{_+_, _≤_}
+use Prim.Native.Nat.{ℕ, zero, suc, _+_, _≤_}
 use lib.ListN.{length}
 use Rattle.parts.specs.Text.{bytes}
 use Rattle.digits.proofs.Puts.{put-then, put-none, room-first, room-rest}
-use Rattle.names.specs.Text.{operandText}
-use Rattle.names.proofs.Pieces.{further-some}
-use Rattle.names.proofs.put_further.Statement.{statement}
-use Rattle.names.proofs.put_further.Tie as tie
+use Rattle.operands.specs.Operands.{operandText, further}
+use Rattle.operands.specs.declared.Operand.{Operand}
+use Rattle.operands.proofs.put_further.Statement.{statement}
+use Rattle.operands.proofs.put_further.Tie as tie
+
+-- an operand whose field has digits
+further-some : (digits : ℕ) (o : Operand) → (digits ≡ 0 → ⊥) → further digits o ≡ bytes ", " ++ operandText o
+further-some zero o h = absurd (h refl)
+further-some (suc digits) o h = refl
 
 returns : tie.Need-returns
 returns c = rw (c .if1 .taken) (put-none _ _)

@@ -2,8 +2,8 @@
 -- Assumes nothing.
 use borrow.Author.Needs.{needs}
 use Rattle.digits.proofs.Puts.{put-none}
-use Rattle.names.proofs.put_suffix.Statement.{statement}
-use Rattle.names.proofs.put_suffix.Tie as tie
+use Rattle.operands.proofs.put_suffix.Statement.{statement}
+use Rattle.operands.proofs.put_suffix.Tie as tie
 
 put-bytes-requires : tie.Need-put-bytes-requires
 put-bytes-requires c κs =

@@ -1,8 +1,8 @@
 -- `source` meets its contract: a case for each family.
 -- Assumes nothing.
 use borrow.Author.Needs.{needs}
-use Rattle.names.proofs.source.Statement.{statement}
-use Rattle.names.proofs.source.Tie as tie
+use Rattle.operands.proofs.source.Statement.{statement}
+use Rattle.operands.proofs.source.Tie as tie
 
 -- where the family is known to be a low one, and where a wide one
 abbrev low : tie.After-known-told → tie.After-family

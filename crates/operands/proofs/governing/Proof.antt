@@ -1,8 +1,8 @@
 -- `governing` meets its contract: a case for each family.
 -- Assumes nothing.
 use borrow.Author.Needs.{needs}
-use Rattle.names.proofs.governing.Statement.{statement}
-use Rattle.names.proofs.governing.Tie as tie
+use Rattle.operands.proofs.governing.Statement.{statement}
+use Rattle.operands.proofs.governing.Tie as tie
 
 returns : tie.Need-returns
 returns c = rw (c .before .enum-told .given .1) (c .register .ensures)

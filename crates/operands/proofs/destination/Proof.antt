@@ -1,8 +1,8 @@
 -- `destination` meets its contract: a case for each family.
 -- Assumes nothing.
 use borrow.Author.Needs.{needs}
-use Rattle.names.proofs.destination.Statement.{statement}
-use Rattle.names.proofs.destination.Tie as tie
+use Rattle.operands.proofs.destination.Statement.{statement}
+use Rattle.operands.proofs.destination.Tie as tie
 
 -- where the family is known to be a low one
 abbrev low : tie.After-known-told → tie.After-family
