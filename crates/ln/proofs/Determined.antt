@@ -22,9 +22,9 @@ use Rattle.ln.specs.declared.LnPlace.{LnPlace}
 use Rattle.ln.specs.declared.LnSession.{LnSession}
 use Rattle.ln.specs.declared.LnWord.{LnWord}
 use Rattle.ln.specs.Outside.{answerOut, answerIn, decodedOut, sessionOut, wordOut}
-use Rattle.ln.specs.Panel.{PanelWritten}
+use Rattle.totals.specs.Written.{PanelWritten}
 use Rattle.ln.specs.Posts.{WordDecoded, WordRead, SessionRead, RegisterPlaced, Subtotalled, PositionTold}
-use Rattle.ln.proofs.Panels.{panel-written-determined}
+use Rattle.totals.proofs.Written.{panel-written-determined}
 
 pub ln-decode-determined : (word : ℕ) (r q : LnFields) → WordDecoded word r → WordDecoded word q → r ≡ q
 ln-decode-determined word = one-result (decodedOut (decoded word))

@@ -4,10 +4,6 @@ use machine::refusal;
 use registers::Kind;
 use words::Decoded;
 ghost use mathlib.Core.Path.{_≡_};
-ghost use Prim.Native.Nat.{_+_, _≤_};
-ghost use lib.ListN.{length};
-ghost use Rattle.parts.specs.Part.{withPart, laid};
-ghost use Rattle.machine.specs.Size.{segmentBytes};
 ghost use Rattle.registers.specs.State.{state};
 ghost use Rattle.words.specs.Decode.{noFields};
 ghost use Rattle.names.specs.Named.{Named};
@@ -15,7 +11,7 @@ ghost use Rattle.assembles.specs.Assembled.{Assembled};
 ghost use Rattle.journal.specs.Calls.{Freshened, Stepped, Backed};
 ghost use Rattle.lines.specs.Line.{LineWritten};
 ghost use Rattle.ln.specs.Posts.{WordDecoded, WordRead, SessionRead, RegisterPlaced, Subtotalled, PositionTold};
-ghost use Rattle.ln.specs.Panel.{panelBytes, joined, PanelWritten};
+ghost use Rattle.totals.specs.Written.{PanelWritten};
 ghost use Rattle.ln.specs.Outside.{answerIn, fieldsOut, flagOf, placeFor};
 
 mod held;
@@ -300,29 +296,6 @@ fn no_place(number: u8) -> LnPlace
     }
 }
 
-// The bytes of a panel.
-const PANEL_BYTES: usize = Length::MOST * Length::SEGMENT_BYTES;
-
-// Writes a row at a place of the output.
-fn write_row(out: &mut [u8], at: usize, row: [u8; 16])
-    requires { ⌜ at + segmentBytes ≤ length (now out) ⌝ }
-    ensures { λ _. ⌜ (length row ≡ segmentBytes) × (now (out .exit) ≡ withPart at segmentBytes row (now (out .entry))) ⌝ }
-{
-    parts::overwrite(out, at, &row);
-}
-
-// Writes a panel's rows one after the other at the front of the output.
-fn write_rows(out: &mut [u8], rows: [[u8; 16]; 16])
-    requires { ⌜ panelBytes ≤ length (now out) ⌝ }
-    ensures { λ _. ⌜ now (out .exit) ≡ laid (joined rows) (now (out .entry)) ⌝ }
-{
-    let mut s = 0;
-    while s < Length::MOST {
-        write_row(out, Length::SEGMENT_BYTES * s, rows[s]);
-        s += 1;
-    }
-}
-
 // The panel's rows one after the other at the front of the output, or LENGTH, FILE, OUT or RANGE.
 #[no_mangle]
 pub extern "C" fn ln_panel(
@@ -336,17 +309,5 @@ pub extern "C" fn ln_panel(
 ) -> u64
     ensures { λ r. ⌜ PanelWritten k (now (z .entry)) (now (p .entry)) source governing size (now (out .entry)) r (now (out .exit)) ⌝ }
 {
-    let files = machine::check_files(k, z, p);
-    if files != refusal::DONE {
-        return files as u64;
-    }
-    if out.len() < PANEL_BYTES {
-        return refusal::OUT as u64;
-    }
-    let refused = totals::panel_refusal(k, z, p, source, governing, size);
-    if refused != refusal::DONE {
-        return refused as u64;
-    }
-    write_rows(out, totals::panel(k, z, p, source, governing, size));
-    refusal::DONE as u64
+    totals::write_panel(k, z, p, source, governing, size, out) as u64
 }

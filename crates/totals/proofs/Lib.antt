@@ -1,2 +1,4 @@
 pub mod Accepted
 pub mod Answers
+pub mod Rows
+pub mod Written

@@ -1,6 +1,11 @@
 // The calls for a panel and for a subtotal: what a pane draws of a sum, for every input.
 ghost use mathlib.Core.Path.{_≡_};
+ghost use Prim.Native.Nat.{_+_, _≤_};
+ghost use lib.ListN.{length};
+ghost use Rattle.parts.specs.Part.{withPart, laid};
+ghost use Rattle.machine.specs.Size.{segmentBytes};
 ghost use Rattle.totals.specs.Calls.{panelRefused, panelAnswer, subtotalRefused, subtotalAnswer};
+ghost use Rattle.totals.specs.Written.{panelBytes, joined, PanelWritten};
 use machine::Answer;
 use machine::Length;
 use machine::refusal;
@@ -101,4 +106,54 @@ pub fn subtotal(
     let predicate = registers::register(k, Kind::Predicate, p, governing);
     let value = sums::sum_between(register, predicate, lanes::width_of(size), signed, a, b);
     Answer { number, value }
+}
+
+// The bytes of a panel.
+const PANEL_BYTES: usize = Length::MOST * Length::SEGMENT_BYTES;
+
+// Writes a row at a place of the output.
+fn write_row(out: &mut [u8], at: usize, row: [u8; 16])
+    requires { ⌜ at + segmentBytes ≤ length (now out) ⌝ }
+    ensures { λ _. ⌜ (length row ≡ segmentBytes) × (now (out .exit) ≡ withPart at segmentBytes row (now (out .entry))) ⌝ }
+{
+    parts::overwrite(out, at, &row);
+}
+
+// Writes a panel's rows one after the other at the front of the output.
+fn write_rows(out: &mut [u8], rows: [[u8; 16]; 16])
+    requires { ⌜ panelBytes ≤ length (now out) ⌝ }
+    ensures { λ _. ⌜ now (out .exit) ≡ laid (joined rows) (now (out .entry)) ⌝ }
+{
+    let mut s = 0;
+    while s < Length::MOST {
+        write_row(out, Length::SEGMENT_BYTES * s, rows[s]);
+        s += 1;
+    }
+}
+
+// The panel's rows one after the other at the front of the output, or LENGTH, FILE, OUT or RANGE.
+pub fn write_panel(
+    k: usize,
+    z: &[u8],
+    p: &[u8],
+    source: usize,
+    governing: usize,
+    size: usize,
+    out: &mut [u8],
+) -> u8
+    ensures { λ r. ⌜ PanelWritten k (now (z .entry)) (now (p .entry)) source governing size (now (out .entry)) r (now (out .exit)) ⌝ }
+{
+    let files = machine::check_files(k, z, p);
+    if files != refusal::DONE {
+        return files;
+    }
+    if out.len() < PANEL_BYTES {
+        return refusal::OUT;
+    }
+    let refused = panel_refusal(k, z, p, source, governing, size);
+    if refused != refusal::DONE {
+        return refused;
+    }
+    write_rows(out, panel(k, z, p, source, governing, size));
+    refusal::DONE
 }

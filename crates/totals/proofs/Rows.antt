@@ -9,7 +9,7 @@ use lib.ListN.{length, take, drop, getD, length-append}
 use lib.Seq.{take-at, take-suc, drop-append-add, drop-drop}
 use Rattle.parts.specs.Part.{withPart}
 use Rattle.machine.specs.Size.{segmentBytes}
-use Rattle.ln.specs.Panel.{joined}
+use Rattle.totals.specs.Written.{joined}
 
 -- rows one after the other, and one more
 joined-append : (rows more : List (List ℕ)) → joined (rows ++ more) ≡ joined rows ++ joined more

@@ -7,8 +7,8 @@ use lib.ListN.{length}
 use borrow.Author.Needs.{needs}
 use Rattle.parts.specs.Part.{withPart}
 use Rattle.machine.specs.Size.{segmentBytes}
-use Rattle.ln.proofs.write_row.Statement.{statement}
-use Rattle.ln.proofs.write_row.Tie as tie
+use Rattle.totals.proofs.write_row.Statement.{statement}
+use Rattle.totals.proofs.write_row.Tie as tie
 
 -- where the function started
 abbrev begin : tie.After-row → tie.Start

@@ -8,10 +8,10 @@ use native.Mathlib.Omega.{arith}
 use lib.ListN.{length, drop}
 use lib.Seq.{take-all}
 use Rattle.machine.specs.Size.{mostLength}
-use Rattle.ln.specs.Panel.{joined}
-use Rattle.ln.proofs.Rows.{Laid, row-laid}
-use Rattle.ln.proofs.write_rows.Statement.{statement}
-use Rattle.ln.proofs.write_rows.Tie as tie
+use Rattle.totals.specs.Written.{joined}
+use Rattle.totals.proofs.Rows.{Laid, row-laid}
+use Rattle.totals.proofs.write_rows.Statement.{statement}
+use Rattle.totals.proofs.write_rows.Tie as tie
 
 abbrev Inv-loop : tie.InvT-loop
 Inv-loop out₀ rows s₀ out s = (s ≤ mostLength) × (length out ≡ length out₀) × Laid rows out₀ s out

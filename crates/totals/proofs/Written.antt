@@ -13,8 +13,8 @@ use borrow.Author.Tests.{lt-ltb, le-ltb}
 use Rattle.parts.specs.Part.{laid}
 use Rattle.machine.specs.Refusal.{DONE, OUT, RANGE, Test, First, inOrder, filesTests, refused}
 use Rattle.machine.proofs.Tests.{first-exactly, first-after, refused-early, kept, left}
 use Rattle.totals.specs.Calls.{inRange, panelRefused, panelAnswer}
-use Rattle.ln.specs.Panel.{panelBytes, joined, panelWrittenTests, panelWrittenRefused, panelLaid, PanelWritten}
+use Rattle.totals.specs.Written.{panelBytes, joined, panelWrittenTests, panelWrittenRefused, panelLaid, PanelWritten}
 
 pub panel-written-in-order : (k : ℕ) (z p : List ℕ) (source predicate size n : ℕ) → inOrder (panelWrittenTests k z p source predicate size n) ≡ true
 panel-written-in-order k z p source predicate size n = refl

@@ -1,13 +1,13 @@
--- `ln_panel` meets its contract: each refusal at its place in the order leaves the output, and DONE has the panel's rows at its front.
+-- `write_panel` meets its contract: each refusal at its place in the order leaves the output, and DONE has the panel's rows at its front.
 -- Assumes nothing.
 use mathlib.Core.Path.{_≡_, sym, _∙_}
 use denote.Ref.{now}
 use lib.ListN.{length}
 use borrow.Author.Needs.{needs}
 use Rattle.machine.specs.Refusal.{refused, filesTests}
-use Rattle.ln.proofs.Panels.{files-refuse, out-refuses, range-refuses, panel-laid}
-use Rattle.ln.proofs.ln_panel.Statement.{statement}
-use Rattle.ln.proofs.ln_panel.Tie as tie
+use Rattle.totals.proofs.Written.{files-refuse, out-refuses, range-refuses, panel-laid}
+use Rattle.totals.proofs.write_panel.Statement.{statement}
+use Rattle.totals.proofs.write_panel.Tie as tie
 
 -- where the function started, from the check of the files and from that of the panel
 abbrev start : tie.After-check-files → tie.Start
@@ -47,20 +47,16 @@ returns-4 c =
     panel-laid (a .k) (now (a .z)) (now (a .p)) (a .source) (a .governing) (a .size) (now (a .out)) (right (r .before .before)) (r .before .if2 .left)
     (r .panel-refusal .result) (r .panel-refusal .ensures) _ _ (e .if3 .left) (p .panel .ensures) (c .before .before .write-rows .ensures)
 
-pub ln-panel-spec : {M : Type 1} → statement M
-ln-panel-spec =
+pub write-panel-spec : {M : Type 1} → statement M
+write-panel-spec =
     tie.close
     (tie.spec
     (λ c κs. search needs)
-    (λ c. search needs)
     returns
-    (λ c. search needs)
     returns-2
     (λ c κs. search needs)
-    (λ c. search needs)
     returns-3
     (λ c κs. search needs)
     (λ c κs. search needs)
-    (λ c. search needs)
     (λ c. search needs)
     returns-4)
