@@ -1,7 +1,7 @@
--- The halves of two tests that both hold, and the test of two lists: they are the same exactly where it says so.
+-- The halves of two tests that both hold, the test of two lists: they are the same exactly where it says so; and what an arm of a match tells.
 -- Assumes nothing.
 use Prim.Native.Nat.{ℕ}
-use mathlib.Core.Path.{_≡_, refl, sym, ap₂}
+use mathlib.Core.Path.{_≡_, refl, sym, _∙_, ap, ap₂}
 use mathlib.Core.Bool.{Bool, true, false}
 use mathlib.Core.List.{List, [], _∷_}
 use lib.Dec.{eqb}
@@ -44,3 +44,7 @@ same-not a b differ = go (sameBytes a b) refl
     go : (t : Bool) → sameBytes a b ≡ t → t ≡ false
     go true e = absurd (differ (same-true a b e))
     go false e = refl
+
+-- an arm's answer for the value that the arm is of is the answer for the value that led there
+pub of-arm : {A B : Type 0} (f : A → B) (x arm : A) (r : B) → x ≡ arm → r ≡ f arm → r ≡ f x
+of-arm f x arm r is e = e ∙ ap f (sym is)

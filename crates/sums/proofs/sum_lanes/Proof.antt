@@ -2,9 +2,10 @@
 -- Assumes nothing.
 use borrow.Author.Needs.{needs}
 use Prim.Native.Nat.{ℕ}
-use mathlib.Core.Path.{_≡_, sym, _∙_, ap}
+use mathlib.Core.Path.{_≡_}
 use mathlib.Core.List.{List}
 use denote.Ref.{now}
+use Rattle.parts.proofs.Same.{of-arm}
 use Rattle.sums.specs.Sums.{laneSum, GovernedRange}
 use Rattle.sums.proofs.sum_lanes.Statement.{statement}
 use Rattle.sums.proofs.sum_lanes.Tie as tie
@@ -12,12 +13,9 @@ use Rattle.sums.proofs.sum_lanes.Tie as tie
 as-width : (w v a b : ℕ) (p n : List ℕ) → w ≡ v → GovernedRange w a b p n → GovernedRange v a b p n
 as-width w v a b p n is h = rw is at h
 
--- the sum over what is lent, in lanes of any width; where the width is the arm's, an arm's sum is the one asked for
+-- the sum over what is lent, in lanes of any width
 abbrev sumAt : tie.Start → ℕ → ℕ
 sumAt s w = laneSum (s .args .signed) w 0 (s .args .count) (now (s .args .predicate)) (now (s .args .register))
-
-of-width : (s : tie.Start) (v r : ℕ) → s .args .w ≡ v → r ≡ sumAt s v → r ≡ sumAt s (s .args .w)
-of-width s v r is e = e ∙ ap (sumAt s) (sym is)
 
 pub sum-lanes-spec : {M : Type 1} → statement M
 sum-lanes-spec =
@@ -28,8 +26,8 @@ sum-lanes-spec =
     (λ c κs. as-width _ 4 _ _ _ _ (c .match .keys3) (c .before .before .before .pre))
     (λ c κs. as-width _ 8 _ _ _ _ (c .match .keys4) (c .before .before .before .pre))
     (λ c κs. search needs)
-    (λ c. of-width (c .before .before .before .before) 1 _ (c .before .match .keys1) (c .sum-run .ensures))
-    (λ c. of-width (c .before .before .before .before) 2 _ (c .before .match .keys2) (c .sum-run2 .ensures))
-    (λ c. of-width (c .before .before .before .before) 4 _ (c .before .match .keys3) (c .sum-run3 .ensures))
-    (λ c. of-width (c .before .before .before .before) 8 _ (c .before .match .keys4) (c .sum-run4 .ensures))
+    (λ c. of-arm (sumAt (c .before .before .before .before)) _ 1 _ (c .before .match .keys1) (c .sum-run .ensures))
+    (λ c. of-arm (sumAt (c .before .before .before .before)) _ 2 _ (c .before .match .keys2) (c .sum-run2 .ensures))
+    (λ c. of-arm (sumAt (c .before .before .before .before)) _ 4 _ (c .before .match .keys3) (c .sum-run3 .ensures))
+    (λ c. of-arm (sumAt (c .before .before .before .before)) _ 8 _ (c .before .match .keys4) (c .sum-run4 .ensures))
     (λ c. search needs))
