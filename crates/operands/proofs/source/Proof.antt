@@ -28,27 +28,12 @@ returns-5 c =
     let l = c .before in
     rw (wide (l .before .before .before) .family2 .given .1, l .before .enum-told5 .given .1, ← l .widening-size .ensures) (c .register5 .ensures)
 
+-- what each arm is told and asks of its calls, then what it returns
 pub source-spec : {M : Type 1} → statement M
 source-spec =
-    tie.close
-    (tie.spec
-    (λ c. search needs)
-    (λ c. search needs)
-    (λ c κs. search needs)
-    (λ c. search needs)
-    (λ c κs. search needs)
-    (λ c. search needs)
-    (λ c κs. search needs)
-    (λ c κs. search needs)
-    (λ c. search needs)
-    (λ c. search needs)
-    (λ c κs. search needs)
-    (λ c κs. search needs)
-    (λ c. search needs)
-    (λ c κs. search needs)
-    (λ c κs. search needs)
-    returns
-    returns-2
-    returns-3
-    returns-4
-    returns-5)
+    let reduction = tie.spec (λ c. search needs) (λ c. search needs) (λ c κs. search needs) in
+    let segment = reduction (λ c. search needs) (λ c κs. search needs) in
+    let long = segment (λ c. search needs) (λ c κs. search needs) (λ c κs. search needs) in
+    let pairwise = long (λ c. search needs) (λ c. search needs) (λ c κs. search needs) (λ c κs. search needs) in
+    let widening = pairwise (λ c. search needs) (λ c κs. search needs) (λ c κs. search needs) in
+    tie.close (widening returns returns-2 returns-3 returns-4 returns-5)

@@ -32,17 +32,10 @@ returns-2 c = of-arm (sizesAt (c .before .before .before)) _ _ _ (c .before .enu
 returns-3 : tie.Need-returns-3
 returns-3 c = of-arm (sizesAt (c .before .before .before)) _ _ _ (c .before .enum-told3 .given .1) (c .allows-long .ensures)
 
+-- what each arm is told and asks of its calls, then what it returns
 pub allows-low-spec : {M : Type 1} → statement M
 allows-low-spec =
-    tie.close
-    (tie.spec
-    (λ c. search needs)
-    (λ c κs. search needs)
-    (λ c κs. search needs)
-    (λ c. search needs)
-    (λ c κs. search needs)
-    (λ c. search needs)
-    (λ c κs. search needs)
-    returns
-    returns-2
-    returns-3)
+    let reduction = tie.spec (λ c. search needs) (λ c κs. search needs) (λ c κs. search needs) in
+    let segment = reduction (λ c. search needs) (λ c κs. search needs) in
+    let long = segment (λ c. search needs) (λ c κs. search needs) in
+    tie.close (long returns returns-2 returns-3)
