@@ -1,5 +1,4 @@
 // The library in a host's hands: thin calls under one prefix, for C and Rust. A slice is a pointer and then a length.
-use machine::Length;
 use machine::refusal;
 use registers::Kind;
 use words::Decoded;

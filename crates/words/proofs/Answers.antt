@@ -4,20 +4,16 @@
 use mathlib.Core.Path.{_≡_, refl, _∙_, ap}
 use mathlib.Core.Bool.{Bool, true, false, cond}
 use mathlib.Core.Logic.{_↔_}
-use mathlib.Core.List.{List}
 use Prim.Native.Nat.{ℕ, _≤_, _<_}
 use native.Mathlib.Omega.{arith}
 use lib.Dec.{ltb}
 use borrow.Author.Tests.{ltb-true, ltb-false}
 use Rattle.machine.specs.Refusal.{DONE, UNKNOWN, UNDEFINED}
 use Rattle.machine.proofs.Tests.{one-result}
-use Rattle.rows.specs.Table.{table, rows, rowAt, rowOf, familyOf, formOf, matches}
+use Rattle.rows.specs.Table.{rows, rowAt, rowOf, formOf, matches}
 use Rattle.words.specs.Sizes.{allows}
 use Rattle.words.specs.Field.{Counted}
 use Rattle.words.specs.Decode.{decoded, judged, fieldsAt, numberOf, RowWith}
-use Rattle.rows.specs.declared.Row.{Row}
-use Rattle.rows.specs.declared.Family.{Family}
-use Rattle.rows.specs.declared.Form.{Form}
 use Rattle.words.specs.declared.Fields.{Fields}
 use Rattle.words.specs.declared.Decoded.{Decoded}
 use Rattle.rows.proofs.Rows.{row-matches, row-no-later}
