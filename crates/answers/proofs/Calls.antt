@@ -55,7 +55,9 @@ module _ (f : Fields) (k : ℕ) (s : State) (x : Executable f k s) where
       ∙ ap (λ (v : ℕ). record { number = DONE; value = v }) (sum ∙ sym (ap (lane 8 0) register-after ∙ lane-is))
     where
       summed : ℕ
-      summed = residue 64 (total (each (activeElement (formOf (f .row) .parameters .signed) (widthOf (f .size)) (maskOf f k s) (operandsOf f k s .operand1)) 0 (vectorBytes k / widthOf (f .size))))
+      summed =
+          residue 64
+          (total (each (activeElement (formOf (f .row) .parameters .signed) (widthOf (f .size)) (maskOf f k s) (operandsOf f k s .operand1)) 0 (vectorBytes k / widthOf (f .size))))
 
       sum : laneSum (formOf (f .row) .parameters .signed) (widthOf (f .size)) 0 (vectorBytes k / widthOf (f .size)) (maskOf f k s) (operandsOf f k s .operand1) ≡ summed
       sum = rw (sub-zero (vectorBytes k / widthOf (f .size)))
@@ -69,13 +71,15 @@ module _ (f : Fields) (k : ℕ) (s : State) (x : Executable f k s) where
   -- what addqv leaves is the panel's rows added, and zeros above
   pub addqv-adds-the-panel : familyOf (f .row) ≡ Low Segment
       → read k Vector (f .d) (executed f k s)
-      ≡ padded (vectorBytes k) (fromLanes (widthOf (f .size)) 0 (perSegment (widthOf (f .size))) (rowsSum (widthOf (f .size)) (panelAnswer k (s .z) (s .p) (f .n) (f .g) (f .size))))
+      ≡ padded (vectorBytes k)
+      (fromLanes (widthOf (f .size)) 0 (perSegment (widthOf (f .size))) (rowsSum (widthOf (f .size)) (panelAnswer k (s .z) (s .p) (f .n) (f .g) (f .size))))
   addqv-adds-the-panel is =
       register-after
       ∙ sym (padded-padded segmentBytes (vectorBytes k) (writtenFor f k s) (low-written-fits f k s x Segment is) (omega (arith, k-least f k s x)))
       ∙ ap (padded (vectorBytes k))
       (sym (written-segment f k s x is)
-      ∙ sym (addqv-is-column-sums w (maskOf f k s) (operandsOf f k s .operand1) (whole-segments k (s .z) (s .p) (f .n) (f .g) (f .size) (panel-accepted k (s .z) (s .p) (f .n) (f .g) (f .size) done)))
+      ∙ sym (addqv-is-column-sums w (maskOf f k s) (operandsOf f k s .operand1)
+      (whole-segments k (s .z) (s .p) (f .n) (f .g) (f .size) (panel-accepted k (s .z) (s .p) (f .n) (f .g) (f .size) done)))
       ∙ ap (λ (rows : List (List ℕ)). fromLanes w 0 (perSegment w) (rowsSum w rows)) told)
     where
       w : ℕ

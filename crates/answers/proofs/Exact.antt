@@ -92,7 +92,12 @@ module _ (o : Operands) (bytes : (source : Source) → AreBytes (operandOf o sou
   few-exact signed E ts h =
       sum-is-exact signed (2 ^ (1 + bitsOf (h .width))) E (map (added o) ts) (within-terms signed (h .width) ts (h .alike))
       (rw (length-map ts (added o))
-      (omega (arith, mul-le-mul-right (2 ^ (1 + bitsOf (h .width))) (h .most), pow-add 2 (h .power) (1 + bitsOf (h .width)), pow-lt {i = h .power + (1 + bitsOf (h .width))} {j = E} (h .room))))
+      (omega (
+        arith,
+        mul-le-mul-right (2 ^ (1 + bitsOf (h .width))) (h .most),
+        pow-add 2 (h .power) (1 + bitsOf (h .width)),
+        pow-lt {i = h .power + (1 + bitsOf (h .width))} {j = E} (h .room),
+      )))
 
 -- what is not wide
 narrow : (wide : Bool) → not wide ≡ true → wide ≡ false
@@ -114,7 +119,9 @@ few-terms (Low Long) ps k q size mask e km ql sl ex = record {
   width = widthOf size;
   power = 4;
   alike = alike-each ps (widthOf size) (freeTerm (ps .signed) (widthOf size)) 0 (dataBytes q / widthOf size) (λ i. (refl, refl, refl));
-  most = few-each (freeTerm (ps .signed) (widthOf size)) (dataBytes q / widthOf size) (2 ^ 4) (omega (arith, div-le-self (dataBytes q) (widthOf size), pow-mono {i = q} {j = 1} (omega arith)));
+  most =
+      few-each (freeTerm (ps .signed) (widthOf size)) (dataBytes q / widthOf size) (2 ^ 4)
+      (omega (arith, div-le-self (dataBytes q) (widthOf size), pow-mono {i = q} {j = 1} (omega arith)));
   room = omega (arith, width-legal size sl .0);
 }
 few-terms (Wide Pairwise) ps k q size mask e km ql sl ex = absurd (false-not-true ex)

@@ -16,7 +16,8 @@ use Rattle.parts.specs.Number.{number, bytesOf, AreBytes}
 use Rattle.parts.proofs.Same.{both-left, both-right}
 use Rattle.parts.proofs.Numbers.{number-bytes}
 use Rattle.machine.proofs.Places.{place-within}
-use Rattle.entries.specs.Layout.{countAt, countBytes, headerBytes, greatestNumber, mostJournal, isRoom, entryBytes, capacity, slotAt, heldOf, Entry, entryIn, firstEntries, areNamed}
+use Rattle.entries.specs.Layout.{countAt, countBytes, headerBytes, greatestNumber, mostJournal, isRoom, entryBytes}
+use Rattle.entries.specs.Layout.{capacity, slotAt, heldOf, Entry, entryIn, firstEntries, areNamed}
 
 -- a slot ends where the next starts, and slots lie one after the other
 pub slot-next : (k i : ℕ) → slotAt k (suc i) ≡ slotAt k i + entryBytes k

@@ -14,7 +14,8 @@ use Rattle.parts.specs.Number.{number, bytesOf}
 use Rattle.parts.proofs.Numbers.{length-bytes}
 use Rattle.parts.proofs.Parts.{part-part, length-with, take-with, part-with, part-before, part-after, getD-with, getD-before, getD-after, with-again, with-comm, with-same}
 use Rattle.machine.specs.Size.{vectorBytes, mostWords}
-use Rattle.entries.specs.Layout.{countAt, countBytes, headerBytes, greatestNumber, entryBytes, slotAt, capacity, heldOf, Entry, encodedEntry, entryIn, firstEntries, entriesOf, withCount, withEntry, pushed, popped}
+use Rattle.entries.specs.Layout.{countAt, countBytes, headerBytes, greatestNumber, entryBytes, slotAt, capacity, heldOf, Entry}
+use Rattle.entries.specs.Layout.{encodedEntry, entryIn, firstEntries, entriesOf, withCount, withEntry, pushed, popped}
 use Rattle.entries.proofs.Places.{slot-order, slot-inside, count-read, named-more}
 use Rattle.entries.proofs.Formed.{Formed}
 
@@ -149,7 +150,8 @@ module _ (k : ℕ) (e : Entry) (journal : List ℕ) (r : Room k e journal) where
       → popped k (pushed k e journal) ≡ journal
   popped-pushed empty two =
       ap (λ (n : ℕ). written k n n (replicate (entryBytes k) 0) (pushed k e journal)) last
-      ∙ written-again k (heldOf journal) (heldOf journal + 1) (encodedEntry e) journal entry-room entry-size (heldOf journal) (replicate (entryBytes k) 0) (length-replicate (entryBytes k) 0)
+      ∙ written-again k (heldOf journal) (heldOf journal + 1) (encodedEntry e) journal entry-room entry-size (heldOf journal)
+      (replicate (entryBytes k) 0) (length-replicate (entryBytes k) 0)
       ∙ ap (withCount (heldOf journal)) (ap (λ (l : List ℕ). withEntry k (heldOf journal) l journal) (sym empty) ∙ with-same (slotAt k (heldOf journal)) (entryBytes k) journal)
       ∙ ap (λ (l : List ℕ). withPart countAt countBytes l journal) (sym two)
       ∙ with-same countAt countBytes journal

@@ -27,7 +27,8 @@ use Rattle.meaning.specs.Execute.{executed}
 use Rattle.meaning.specs.Needs.{Executable}
 use Rattle.entries.specs.Layout.{capacity, heldOf, positionOf, lastEntry, pushed, popped}
 use Rattle.entries.specs.Tests.{journalTests}
-use Rattle.journal.specs.Calls.{fullTests, emptyTests, startTests, wordNow, fieldsNow, startRefused, stepRefused, stepState, stepJournal, entryFor, restored, backRefused, backState, backJournal, positionRefused, Stepped, Backed, Performed}
+use Rattle.journal.specs.Calls.{fullTests, emptyTests, startTests, wordNow, fieldsNow, startRefused, stepRefused, stepState, stepJournal}
+use Rattle.journal.specs.Calls.{entryFor, restored, backRefused, backState, backJournal, positionRefused, Stepped, Backed, Performed}
 use Rattle.entries.specs.Needs.{Append, TakeBack, TakenBack}
 use Rattle.journal.specs.Needs.{Ready}
 use Rattle.entries.proofs.Places.{slot-inside, named-all}

@@ -10,7 +10,8 @@ use Rattle.machine.specs.Refusal.{First, inOrder}
 use Rattle.machine.specs.declared.Answer.{Answer}
 use Rattle.machine.proofs.Tests.{first-exactly, one-result}
 use Rattle.registers.specs.State.{State}
-use Rattle.journal.specs.Calls.{freshTests, stepTests, backTests, positionTests, freshRefused, freshAfter, stepRefused, stepState, stepJournal, backRefused, backState, backJournal, positionRefused, positionAnswer, Freshened, Leaves, Stepped, Backed}
+use Rattle.journal.specs.Calls.{freshTests, stepTests, backTests, positionTests, freshRefused, freshAfter, stepRefused, stepState, stepJournal}
+use Rattle.journal.specs.Calls.{backRefused, backState, backJournal, positionRefused, positionAnswer, Freshened, Leaves, Stepped, Backed}
 
 pub fresh-in-order : (k : ℕ) (journal : List ℕ) → inOrder (freshTests k journal) ≡ true
 fresh-in-order k journal = refl

@@ -5,7 +5,8 @@
 use Prim.Native.Nat.{ℕ, zero, suc, _+_, _*_, _-_, _/_, _%_, _^_, _≤_, _<_}
 use mathlib.Core.Path.{_≡_, refl, sym, _∙_, ap, ap₂}
 use mathlib.Core.Bool.{Bool, true, false, cond, not}
-use native.Mathlib.Nat.{mod-eq-of-lt, mod-lt, add-mod, add-mul-mod-self-left, mul-add, one-mul, mod-add-div, mod-add-div', mul-zero, zero-mul, zero-add, mul-comm, suc-mul, mul-suc, pow-suc}
+use native.Mathlib.Nat.{mod-eq-of-lt, mod-lt, add-mod, add-mul-mod-self-left, mul-add, one-mul, mod-add-div, mod-add-div'}
+use native.Mathlib.Nat.{mul-zero, zero-mul, zero-add, mul-comm, suc-mul, mul-suc, pow-suc}
 use native.Mathlib.Omega.{arith}
 use lib.Dec.{T, ltb, ltb→lt, nltb→le}
 use lib.Bits.{bitXor, xor-comm, xor-shifted, xor-block, xor-zero-r}

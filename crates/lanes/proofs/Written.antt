@@ -4,7 +4,8 @@
 use Prim.Native.Nat.{ℕ, zero, suc, _+_, _*_, _-_, _/_, _%_, _^_, _≤_, _<_}
 use mathlib.Core.Path.{_≡_, refl, sym, _∙_, ap, ap₂}
 use mathlib.Core.List.{List, _++_, append-assoc, append-nil}
-use native.Mathlib.Nat.{add-zero, zero-mul, suc-mul, mod-add-div', mod-mod-of-dvd, dvd-mul-left, mul-comm, mod-lt, add-comm, zero-add, add-mul, div-lt-iff-lt-mul, le-dest, not-suc-le-zero, le-of-suc-le-suc, sub-zero, sub-self, sub-add-eq}
+use native.Mathlib.Nat.{add-zero, zero-mul, suc-mul, mod-add-div', mod-mod-of-dvd, dvd-mul-left, mul-comm, mod-lt, add-comm}
+use native.Mathlib.Nat.{zero-add, add-mul, div-lt-iff-lt-mul, le-dest, not-suc-le-zero, le-of-suc-le-suc, sub-zero, sub-self, sub-add-eq}
 use native.Mathlib.Numerals.{add-one}
 use native.Mathlib.Omega.{arith}
 use lib.ListN.{length, drop, replicate, length-append, length-replicate}
@@ -62,7 +63,9 @@ residue-modulo D d (negsuc n) = go (le-dest quotient)
     go : (j : ℕ) × (suc (r / N) + j ≡ 2 ^ d) → N - suc (n % N) ≡ (2 ^ (D + d) - suc r) % N
     go (j, e) =
         rw (← same)
-        (sym (ap (λ (k : ℕ). k % N) (omega (arith, wide ∙ ap (λ (k : ℕ). k * N) (sym e) ∙ add-mul (suc (r / N)) j N, suc-mul (r / N) N, mod-add-div' r N, small)) ∙ digits-mod j (omega (arith, small))))
+        (sym (ap (λ (k : ℕ). k % N)
+        (omega (arith, wide ∙ ap (λ (k : ℕ). k * N) (sym e) ∙ add-mul (suc (r / N)) j N, suc-mul (r / N) N, mod-add-div' r N, small))
+        ∙ digits-mod j (omega (arith, small))))
 
 -- the low bytes of an integer are those of its 64 digits
 pub bytes-residue : (w : ℕ) → w ≤ 8 → (z : ℤ) → bytesOf w (residue (bitsOf w) z) ≡ bytesOf w (residue 64 z)

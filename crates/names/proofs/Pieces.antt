@@ -123,14 +123,17 @@ module _ (f : Fields) (form : Form) (is : form ≡ formOf (f .row)) (o : Operand
     room-four g p n s m eg ep en es em =
         rw (← text-written g p n s m eg ep en es em) (omega (arith, text-length f r))
 
-    pub room-three : (g : ℕ) (p n : Operand) → g ≡ governingDigits (form .family) → p ≡ governingOperand (form .family) f → n ≡ sourceOperand (form .family) (form .parameters .wide) (f .n) f
+    pub room-three : (g : ℕ) (p n : Operand) → g ≡ governingDigits (form .family) → p ≡ governingOperand (form .family) f
+        → n ≡ sourceOperand (form .family) (form .parameters .wide) (f .n) f
         → 0 + length (front f o ++ further g p ++ further registerDigits n) ≤ room
-    room-three g p n eg ep en = room-first 0 (front f o ++ further g p ++ further registerDigits n) (further (secondDigits (form .family)) (sourceOperand (form .family) false (f .m) f))
+    room-three g p n eg ep en =
+        room-first 0 (front f o ++ further g p ++ further registerDigits n) (further (secondDigits (form .family)) (sourceOperand (form .family) false (f .m) f))
         (room-four g p n _ _ eg ep en refl refl)
 
     pub room-two : (g : ℕ) (p : Operand) → g ≡ governingDigits (form .family) → p ≡ governingOperand (form .family) f
         → 0 + length (front f o ++ further g p) ≤ room
-    room-two g p eg ep = room-first 0 (front f o ++ further g p) (further registerDigits (sourceOperand (form .family) (form .parameters .wide) (f .n) f)) (room-three g p _ eg ep refl)
+    room-two g p eg ep =
+        room-first 0 (front f o ++ further g p) (further registerDigits (sourceOperand (form .family) (form .parameters .wide) (f .n) f)) (room-three g p _ eg ep refl)
 
     pub room-one : 0 + length (front f o) ≤ room
     room-one = room-first 0 (front f o) (further (governingDigits (form .family)) (governingOperand (form .family) f)) (room-two _ _ refl refl)

@@ -10,7 +10,8 @@ use native.Mathlib.Numerals.{add-one}
 use native.Mathlib.Omega.{arith}
 use lib.ListN.{length, getD, take, drop, set, length-append, length-drop, take-append-drop, drop-of-length-le}
 use Rattle.parts.specs.Part.{part, withPart, Outside}
-use lib.Seq.{length-take-le, take-append-le, drop-append-le, take-append-add, take-at, drop-at, take-add, take-take, drop-drop, getD-drop, getD-take, take-length, take-suc-set, drop-set-lt}
+use lib.Seq.{length-take-le, take-append-le, drop-append-le, take-append-add, take-at, drop-at, take-add}
+use lib.Seq.{take-take, drop-drop, getD-drop, getD-take, take-length, take-suc-set, drop-set-lt}
 
 -- a part is what lies between two places
 pub part-between : (a n : ℕ) (l : List ℕ) → a ≤ length l → drop a (take (a + n) l) ≡ part a n l

@@ -35,7 +35,8 @@ pub next-refused-exactly : (program : List ℕ) (at n : ℕ) → nextRefused pro
 next-refused-exactly program at n = first-exactly (placeTests (length program) at) n
 
 -- with a refusal there is no word, and the reader is itself
-pub read-unmoved : (r : Reader) → (nextRefused (now (r .program)) (r .at) ≡ DONE → ⊥) → readNext r ≡ record { number = nextRefused (now (r .program)) (r .at); word = 0; reader = r }
+pub read-unmoved : (r : Reader) → (nextRefused (now (r .program)) (r .at) ≡ DONE → ⊥)
+    → readNext r ≡ record { number = nextRefused (now (r .program)) (r .at); word = 0; reader = r }
 read-unmoved r h = ap (toldBy (r .program)) (found-refused (nextRefused (now (r .program)) (r .at)) (wordAt (now (r .program)) (r .at)) (r .at) h)
 
 -- with none there is the word at the reader's place, and the reader has moved on by one
@@ -44,7 +45,8 @@ pub read-moved : (r : Reader) → nextRefused (now (r .program)) (r .at) ≡ DON
 read-moved r e = rw e
 
 -- after n answers the reader stands at word n
-pub walked-place : (program : RefT (List ℕ)) (n : ℕ) → isProgram (length (now program)) ≡ true → n ≤ wordsOf (length (now program)) → walked n (readerAt program 0) ≡ readerAt program n
+pub walked-place : (program : RefT (List ℕ)) (n : ℕ) → isProgram (length (now program)) ≡ true → n ≤ wordsOf (length (now program))
+    → walked n (readerAt program 0) ≡ readerAt program n
 walked-place program zero legal h = refl
 walked-place program (suc n) legal h =
     ap (λ (r : Reader). readNext r .reader) (walked-place program n legal (omega arith))

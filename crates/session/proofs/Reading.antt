@@ -17,7 +17,8 @@ use Rattle.machine.specs.Refusal.{DONE, SESSION, inOrder, refused, filesTests, 
 use Rattle.machine.proofs.Checks.{legal-least, legal-most}
 use Rattle.machine.proofs.Tests.{one-result}
 use Rattle.session.specs.declared.Session.{Session}
-use Rattle.session.specs.Layout.{mark, sessionFormat, sessionMark, sessionVersion, sessionLength, wordCount, sessionHeader, predicatesAt, programAt, endAt, mostSession, isHeaded, isSized, isSession, sessionTests, placed, sessionOf, vectorPart, predicatePart, programPart, IsSession, Parts}
+use Rattle.session.specs.Layout.{mark, sessionFormat, sessionMark, sessionVersion, sessionLength, wordCount, sessionHeader, predicatesAt, programAt, endAt, mostSession}
+use Rattle.session.specs.Layout.{isHeaded, isSized, isSession, sessionTests, placed, sessionOf, vectorPart, predicatePart, programPart, IsSession, Parts}
 
 -- the one test is in order
 pub session-in-order : (bytes : List ℕ) → inOrder (sessionTests bytes) ≡ true

@@ -14,7 +14,8 @@ use Rattle.parts.specs.Part.{part}
 use Rattle.parts.specs.Number.{bytesOf, number}
 use Rattle.parts.proofs.Numbers.{drop-replicate}
 use Rattle.machine.specs.Size.{vectorBytes, mostWords}
-use Rattle.entries.specs.Layout.{version, heading, countAt, countBytes, headerBytes, isRoom, entryBytes, slotAt, capacity, heldOf, Entry, firstEntries, areNamed, encodedEntry, encodedEntries, lastEntry, journalOf, withCount, withEntry, pushed, popped}
+use Rattle.entries.specs.Layout.{version, heading, countAt, countBytes, headerBytes, isRoom, entryBytes, slotAt, capacity, heldOf, Entry}
+use Rattle.entries.specs.Layout.{firstEntries, areNamed, encodedEntry, encodedEntries, lastEntry, journalOf, withCount, withEntry, pushed, popped}
 use Rattle.entries.proofs.Places.{room-least, room-most, slot-next, slot-inside, count-read}
 use Rattle.entries.proofs.Formed.{Formed}
 use Rattle.entries.proofs.Written.{Room, last-pushed, popped-pushed}
@@ -114,7 +115,8 @@ module _ (k n : ℕ) (es : List Entry) (e : Entry) (r : RoomAfter k n es e) wher
   size = length-closed k n es (r .sized) (omega (arith, fits))
 
   -- the entry laid over the first of the zeros
-  entry-closed : withEntry k (length es) (encodedEntry e) journal ≡ front k (length es) (encodedEntries es ++ encodedEntry e) ++ replicate (n - slotAt k (length es) - entryBytes k) 0
+  entry-closed : withEntry k (length es) (encodedEntry e) journal
+      ≡ front k (length es) (encodedEntries es ++ encodedEntry e) ++ replicate (n - slotAt k (length es) - entryBytes k) 0
   entry-closed =
       ap₂ (λ (a b : List ℕ). a ++ encodedEntry e ++ b)
       (ap (take (slotAt k (length es))) (closed-is k n es (r .sized))

@@ -33,7 +33,8 @@ module _ (k bytes : ℕ) (program : List ℕ) (s : State) (sized : Sized k s) (r
       → Reached k s program bytes t
   stays n t ahead w files journal = record { words = n; ahead = ahead; walked = record { files = sym files; entries = sym journal; walkable = w } }
 
-  forward-reached : (n direction : ℕ) (made : Travelled) → made .forward ≡ made .back + n → Walkable k bytes n program → Reached k s program bytes (onward k program (suc direction) (at n made))
+  forward-reached : (n direction : ℕ) (made : Travelled) → made .forward ≡ made .back + n → Walkable k bytes n program
+      → Reached k s program bytes (onward k program (suc direction) (at n made))
   forward-reached n direction made ahead w = go (stepRefused k (at n made .files) program (at n made .journal)) refl
     where
       go : (r : ℕ) → stepRefused k (at n made .files) program (at n made .journal) ≡ r → Reached k s program bytes (onward k program (suc direction) (at n made))
@@ -56,7 +57,8 @@ module _ (k bytes : ℕ) (program : List ℕ) (s : State) (sized : Sized k s) (r
           rw e (stays n _ ahead w (stood .files) (stood .bytes))
 
   -- steps one after the other
-  step-reached : (direction n : ℕ) (made : Travelled) → made .forward ≡ made .back + n → Walkable k bytes n program → Reached k s program bytes (onward k program direction (at n made))
+  step-reached : (direction n : ℕ) (made : Travelled) → made .forward ≡ made .back + n → Walkable k bytes n program
+      → Reached k s program bytes (onward k program direction (at n made))
   step-reached zero = back-reached
   step-reached (suc direction) = λ n. forward-reached n direction
 
@@ -72,7 +74,8 @@ module _ (k bytes : ℕ) (program : List ℕ) (s : State) (sized : Sized k s) (r
   pub demand-3 : (directions : List ℕ) → Ahead k s program bytes (travelled k program directions (starting s (freshJournal k bytes)))
   unfolding walkedState walkedEntries
   demand-3 directions =
-      let r = all-reached directions (starting s (freshJournal k bytes)) (record { words = zero; ahead = refl; walked = record { files = refl; entries = refl; walkable = none } }) in
+      let r = all-reached directions (starting s (freshJournal k bytes))
+      (record { words = zero; ahead = refl; walked = record { files = refl; entries = refl; walkable = none } }) in
       let t = travelled k program directions (starting s (freshJournal k bytes)) in
       let words : r .words ≡ t .made .forward - t .made .back = omega (arith, r .ahead) in
       record { ahead = omega (arith, r .ahead); walked = rw words at (r .walked) }

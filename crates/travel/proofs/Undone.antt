@@ -46,7 +46,8 @@ module _ (f : Fields) (k : ℕ) (s : State) (x : Executable f k s) where
   pub restored-executed : restored k (entryFor k f s) (executed f k s) ≡ s
   restored-executed =
       ap (λ (z : List ℕ). state z (s .p))
-      (with-again (registerAt k Vector (f .d)) (vectorBytes k) (destinationAfter f k s) (s .z) (register-inside k Vector (f .d) (s .z) destination) (length-destination f k s x) (vectorOf k (f .d) (s .z))
+      (with-again (registerAt k Vector (f .d)) (vectorBytes k) (destinationAfter f k s) (s .z) (register-inside k Vector (f .d) (s .z) destination)
+      (length-destination f k s x) (vectorOf k (f .d) (s .z))
       ∙ with-same (registerAt k Vector (f .d)) (vectorBytes k) (s .z))
 
 -- an accepted step has room for its entry

@@ -107,7 +107,8 @@ module _ (k bytes : ℕ) (program : List ℕ) (s : State) (sized : Sized k s) (r
   formed-walked zero w = formed-none k bytes room
   formed-walked (suc n) w =
       rw (← pushed-closed k bytes (entries n) (entry n) (fits n w))
-      (formed-pushed k (entry n) (journal n) (has-room k bytes (entries n) (entry n) (fits n w)) (formed-walked n (walkable-less k bytes n program w)) (omega (arith, executes n w .fields .d)))
+      (formed-pushed k (entry n) (journal n) (has-room k bytes (entries n) (entry n) (fits n w)) (formed-walked n (walkable-less k bytes n program w))
+      (omega (arith, executes n w .fields .d)))
 
   -- an accepted step walks one word more
   step-walkable : (n : ℕ) → Walkable k bytes n program → stepRefused k (after n) program (journal n) ≡ 0 → Walkable k bytes (suc n) program

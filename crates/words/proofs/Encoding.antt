@@ -13,7 +13,8 @@ use Rattle.parts.specs.Part.{both}
 use Rattle.parts.proofs.Same.{both-left, both-right}
 use Rattle.rows.specs.Digits.{digitsAnd, wordDigits}
 use Rattle.rows.specs.Table.{rows, rowAt, rowMask, rowValue, rowOf, familyOf, matches}
-use Rattle.words.specs.Field.{sizePlace, sourcePlace, destinationPlace, governingPlace, secondPlace, qPlace, sizeDigits, registerDigits, governingDigits, secondDigits, qDigits}
+use Rattle.words.specs.Field.{sizePlace, sourcePlace, destinationPlace, governingPlace, secondPlace, qPlace}
+use Rattle.words.specs.Field.{sizeDigits, registerDigits, governingDigits, secondDigits, qDigits}
 use Rattle.words.specs.Decode.{decoded, judged, fieldsAt}
 use Rattle.words.specs.Encode.{encoded, InRange}
 use Rattle.rows.specs.declared.Family.{Family}
@@ -24,7 +25,8 @@ use Rattle.rows.proofs.Every.{every, at-each}
 use Rattle.rows.proofs.Rows.{row-matches}
 use Rattle.rows.proofs.OneRow.{row-found}
 use Rattle.words.proofs.Decoding.{digits-most, decoded-judged, accepted}
-use Rattle.words.proofs.Parts.{total, disjoint, under, under-total, Within, total-within, total-under, Place, fieldMask, placed, under-fields, Fits, fields-within, placed-one}
+use Rattle.words.proofs.Parts.{total, disjoint, under, under-total, Within, total-within, total-under}
+use Rattle.words.proofs.Parts.{Place, fieldMask, placed, under-fields, Fits, fields-within, placed-one}
 
 -- the places of a family's fields, and the numbers that stand there
 abbrev pub placesOf : Family → List Place

@@ -8,7 +8,8 @@ use Rattle.machine.specs.Refusal.{DONE, UNKNOWN, UNDEFINED, Test, test}
 use Rattle.rows.specs.Digits.{field}
 use Rattle.rows.specs.Table.{rows, rowAt, rowOf, formOf, familyOf, matches}
 use Rattle.words.specs.Sizes.{allows}
-use Rattle.words.specs.Field.{sizePlace, sourcePlace, destinationPlace, governingPlace, secondPlace, qPlace, sizeDigits, registerDigits, governingDigits, secondDigits, qDigits}
+use Rattle.words.specs.Field.{sizePlace, sourcePlace, destinationPlace, governingPlace, secondPlace, qPlace}
+use Rattle.words.specs.Field.{sizeDigits, registerDigits, governingDigits, secondDigits, qDigits}
 use Rattle.words.specs.declared.Fields.{Fields}
 use Rattle.words.specs.declared.Decoded.{Decoded}
 use Rattle.words.specs.declared.Decoded.the-variants.{Unknown, Undefined, Word}

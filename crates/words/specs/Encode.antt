@@ -4,7 +4,8 @@ use mathlib.Core.Bool.{true}
 use Prim.Native.Nat.{ℕ, _+_, _*_, _^_, _<_}
 use Rattle.rows.specs.Table.{rows, rowValue, formOf, familyOf}
 use Rattle.words.specs.Sizes.{allows}
-use Rattle.words.specs.Field.{sizePlace, sourcePlace, destinationPlace, governingPlace, secondPlace, qPlace, sizeDigits, registerDigits, governingDigits, secondDigits, qDigits}
+use Rattle.words.specs.Field.{sizePlace, sourcePlace, destinationPlace, governingPlace, secondPlace, qPlace}
+use Rattle.words.specs.Field.{sizeDigits, registerDigits, governingDigits, secondDigits, qDigits}
 use Rattle.words.specs.declared.Fields.{Fields}
 
 -- the row's value plus each field at its place

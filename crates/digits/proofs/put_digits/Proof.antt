@@ -29,8 +29,11 @@ loop-again : tie.Need-loop-again Inv-loop μ-loop
 loop-again c =
     let turn = c .before .before in
     let a = turn .before .before .args in
-    let l = turn .loop in
-    (omega arith, simp length-set (l .inv .1), digits-next (l .out) (a .at) (a .base) (l .i) (l .rest) (c .digit .result) (c .before .loop-test .taken) (c .digit .ensures) ∙ l .inv .2)
+    let l = turn .loop in (
+      omega arith,
+      simp length-set (l .inv .1),
+      digits-next (l .out) (a .at) (a .base) (l .i) (l .rest) (c .digit .result) (c .before .loop-test .taken) (c .digit .ensures) ∙ l .inv .2,
+    )
 
 same-length : tie.Need-same-length Inv-loop μ-loop
 same-length c = c .before .loop .inv .1

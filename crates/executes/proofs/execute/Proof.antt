@@ -74,7 +74,8 @@ returns c =
     let a = low-start w .args in
     register .write-register .ensures
     ∙ ap (λ (bytes : List ℕ). withVector (a .k) (a .f .d) bytes (a .z .now))
-    (ap (padded (vectorBytes (a .k))) (w .low-bytes .ensures) ∙ padded-padded segmentBytes (vectorBytes (a .k)) (writes (low-start w)) (low-fits w) (omega (arith, k-least _ _ _ (low-start w .pre))))
+    (ap (padded (vectorBytes (a .k))) (w .low-bytes .ensures)
+    ∙ padded-padded segmentBytes (vectorBytes (a .k)) (writes (low-start w)) (low-fits w) (omega (arith, k-least _ _ _ (low-start w .pre))))
 
 pub execute-spec : {M : Type 1} → statement M
 execute-spec =

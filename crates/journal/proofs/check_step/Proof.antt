@@ -56,7 +56,8 @@ files-passed : (c : tie.Else1) → let a = start (c .before) .args in answer (st
 unfolding startRefused
 files-passed c =
     let a = start (c .before) .args in
-    refused-later (filesTests (a .k) (length (now (a .z))) (length (now (a .p)))) tt (listed (a .k) (now (a .program)) (now (a .journal))) _ (c .before .check-files .ensures) (c .if1 .left)
+    refused-later (filesTests (a .k) (length (now (a .z))) (length (now (a .p)))) tt (listed (a .k) (now (a .program)) (now (a .journal))) _
+    (c .before .check-files .ensures) (c .if1 .left)
 
 program-passed : (c : tie.Else2) →
     let s = from-program (c .before) in answer s ≡ judged (s .args .k) (now (s .args .program)) (now (s .args .journal))
@@ -76,7 +77,8 @@ returns : tie.Need-returns
 unfolding startRefused
 returns c =
     let a = start (c .before) .args in
-    refused-early (filesTests (a .k) (length (now (a .z))) (length (now (a .p)))) tt (listed (a .k) (now (a .program)) (now (a .journal))) _ (c .before .check-files .ensures) (c .if1 .taken)
+    refused-early (filesTests (a .k) (length (now (a .z))) (length (now (a .p)))) tt (listed (a .k) (now (a .program)) (now (a .journal))) _
+    (c .before .check-files .ensures) (c .if1 .taken)
 
 returns-2 : tie.Need-returns-2
 returns-2 c =

@@ -19,7 +19,8 @@ returns-2 : tie.Need-returns-2
 returns-2 c =
     let s = c .before .before in
     rw (not-false (s .args .signed) (c .before .if1 .left))
-    (extended-by-turning (bitsOf (s .args .w)) (s .args .n) (c .wrapping-sub-u64 .result) (omega arith) (omega arith) (s .pre .digits) (c .wrapping-sub-u64 .ok) (c .wrapping-sub-u64 .ensures))
+    (extended-by-turning (bitsOf (s .args .w)) (s .args .n) (c .wrapping-sub-u64 .result) (omega arith) (omega arith) (s .pre .digits)
+    (c .wrapping-sub-u64 .ok) (c .wrapping-sub-u64 .ensures))
 
 pub extend-spec : {M : Type 1} → statement M
 extend-spec = tie.close (tie.spec returns (λ c. search needs) (λ c. search needs) (λ c. search needs) (λ c κs. search needs) returns-2)

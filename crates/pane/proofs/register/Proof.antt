@@ -46,10 +46,12 @@ lies : (c : tie.Else1) → let a = drawn-start c .args in InFile (a .k) (a .kind
 lies c = let a = drawn-start c .args in in-file (a .k) (now (a .z)) (now (a .p)) (a .kind) (a .number) (drawable (a .k) (now (a .z)) (now (a .p)) (a .kind) (a .number) (done c))
 
 -- the register ends within its file
-ends : (c : tie.After-register-bytes) → let a = placed-start c .args in c .before .register-at .result + c .register-bytes .result ≤ length (fileOf (a .kind) (now (a .z)) (now (a .p)))
+ends : (c : tie.After-register-bytes)
+    → let a = placed-start c .args in c .before .register-at .result + c .register-bytes .result ≤ length (fileOf (a .kind) (now (a .z)) (now (a .p)))
 ends c =
     let a = placed-start c .args in
-    rw (c .before .register-at .ensures, c .register-bytes .ensures) (register-inside (a .k) (a .kind) (a .number) (fileOf (a .kind) (now (a .z)) (now (a .p))) (lies (c .before .before)))
+    rw (c .before .register-at .ensures, c .register-bytes .ensures)
+    (register-inside (a .k) (a .kind) (a .number) (fileOf (a .kind) (now (a .z)) (now (a .p))) (lies (c .before .before)))
 
 -- the part that has the register's start and size is drawn
 shown : (c : tie.After-register-bytes) →
@@ -80,10 +82,14 @@ add-end c =
     record { fits = omega (arith, ends c, l .sized, file-few (a .k) (a .kind) (l .legal)) }
 
 part-result-end : tie.Need-part-result-end
-part-result-end c = let a = placed-start (c .before .before) .args in omega (arith, ends (c .before .before), ap (λ (kind : Kind). length (fileOf kind (now (a .z)) (now (a .p)))) (c .enum-told .given .1))
+part-result-end c =
+    let a = placed-start (c .before .before) .args in
+    omega (arith, ends (c .before .before), ap (λ (kind : Kind). length (fileOf kind (now (a .z)) (now (a .p)))) (c .enum-told .given .1))
 
 part-result-end-2 : tie.Need-part-result-end-2
-part-result-end-2 c = let a = placed-start (c .before .before) .args in omega (arith, ends (c .before .before), ap (λ (kind : Kind). length (fileOf kind (now (a .z)) (now (a .p)))) (c .enum-told2 .given .1))
+part-result-end-2 c =
+    let a = placed-start (c .before .before) .args in
+    omega (arith, ends (c .before .before), ap (λ (kind : Kind). length (fileOf kind (now (a .z)) (now (a .p)))) (c .enum-told2 .given .1))
 
 returns-2 : tie.Need-returns-2
 returns-2 c =

@@ -10,7 +10,8 @@ use Rattle.programs.proofs.word_at.Tie as tie
 cast-result : tie.Need-cast-result
 cast-result c =
     record {
-      fits = rw (c .number-at .ensures) (word-lt (now (c .before .before .args .program)) (c .before .before .args .i) (λ j. omega (arith, c .before .shared-slice-known .given j)));
+      fits =
+          rw (c .number-at .ensures) (word-lt (now (c .before .before .args .program)) (c .before .before .args .i) (λ j. omega (arith, c .before .shared-slice-known .given j)));
     }
 
 -- the word is the number of the four bytes at its place

@@ -34,8 +34,11 @@ left i j h = ap rowAt (omega arith)
 
 loop-again : tie.Need-loop-again Inv-loop μ-loop
 loop-again c =
-    let l = c .before .before .before in
-    (omega (arith, l .loop .inv .0), row-read _ _ _ (l .before .table .ensures) (omega (arith, l .loop .inv .0, c .before .before .loop-test .taken)) ∙ taken _ _ (c .before .if1 .taken))
+    let l = c .before .before .before in (
+      omega (arith, l .loop .inv .0),
+      row-read _ _ _ (l .before .table .ensures) (omega (arith, l .loop .inv .0, c .before .before .loop-test .taken))
+          ∙ taken _ _ (c .before .if1 .taken),
+    )
 
 loop-again-2 : tie.Need-loop-again-2 Inv-loop μ-loop
 loop-again-2 c = let l = c .before .before in (omega (arith, l .loop .inv .0), l .loop .inv .1 ∙ left _ _ (omega arith))

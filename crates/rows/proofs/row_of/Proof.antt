@@ -56,4 +56,6 @@ returns-2 : tie.Need-returns-2 Inv-loop μ-loop
 returns-2 c = past _ _ (omega arith) (c .before .loop .inv .1)
 
 pub row-of-spec : {M : Type 1} → statement M
-row-of-spec = tie.close (tie.spec Inv-loop μ-loop (λ c κs. search needs) loop-holds (λ c. search needs) (λ c. search needs) (λ c κs. search needs) returns (λ c. search needs) (λ c. omega arith) loop-again returns-2)
+row-of-spec =
+    tie.close (tie.spec Inv-loop μ-loop (λ c κs. search needs) loop-holds (λ c. search needs) (λ c. search needs) (λ c κs. search needs) returns
+    (λ c. search needs) (λ c. omega arith) loop-again returns-2)

@@ -85,9 +85,11 @@ loop-again c =
 returns : tie.Need-returns Inv-loop μ-loop
 returns c =
     let s = begin (c .before) in
-    begun-all segmentBytes (s .args .w) (c .before .loop .e) _ _ (c .before .loop .row) (omega (arith, c .loop-test .left, c .before .loop .inv .0)) (s .pre .fills) (c .before .loop .inv .1)
+    begun-all segmentBytes (s .args .w) (c .before .loop .e) _ _ (c .before .loop .row) (omega (arith, c .loop-test .left, c .before .loop .inv .0))
+    (s .pre .fills) (c .before .loop .inv .1)
 
 pub panel-row-spec : {M : Type 1} → statement M
 panel-row-spec =
     tie.close
-    (tie.spec Inv-loop μ-loop (λ c. omega arith) mul-first loop-holds add-lane-value lane-value-requires slice-aggregate-put-lane put-lane-requires add-e (λ c. omega arith) loop-again returns)
+    (tie.spec Inv-loop μ-loop (λ c. omega arith) mul-first loop-holds add-lane-value lane-value-requires slice-aggregate-put-lane put-lane-requires
+    add-e (λ c. omega arith) loop-again returns)

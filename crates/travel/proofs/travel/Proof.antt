@@ -71,7 +71,8 @@ loop-again c =
       omega (arith, few .0, ap (λ (m : Travelled). m .forward) (c .counted .ensures)),
       omega (arith, few .1, ap (λ (m : Travelled). m .back) (c .counted .ensures)),
       trip-next (a .k) (l .i) (now (a .program)) (now (a .directions)) (tripOf (state (l .z) (now (a .p))) (l .journal) (l .made)) _ (omega arith)
-          (trip-onward (a .k) (state (l .z) (now (a .p))) (now (a .program)) (l .journal) direction (g .result) _ _ (l .made) (c .counted .result) (g .ensures) (c .counted .ensures))
+          (trip-onward (a .k) (state (l .z) (now (a .p))) (now (a .program)) (l .journal) direction (g .result) _ _ (l .made) (c .counted .result)
+          (g .ensures) (c .counted .ensures))
           ∙ l .inv .5,
     )
 

@@ -38,7 +38,9 @@ tried : (c : tie.After-is-named Inv-loop μ-loop)
     → c .is-named .result ≡ sameBytes (keyOf (in-loop c .before .loop .i)) (take nameBytes (lent (in-loop c) .before .before .args .text .now))
 tried c =
     let l = in-loop c in
-    c .is-named .ensures ∙ ap (λ (key : List ℕ). sameBytes key (take nameBytes (lent l .before .before .args .text .now))) (line-key _ _ _ (lent l .table .ensures) (l .loop-test .taken))
+    c .is-named .ensures
+    ∙ ap (λ (key : List ℕ). sameBytes key (take nameBytes (lent l .before .before .args .text .now)))
+    (line-key _ _ _ (lent l .table .ensures) (l .loop-test .taken))
 
 returns : tie.Need-returns Inv-loop μ-loop
 returns c = let l = in-loop (c .before) in sym (key-here _ _ (l .loop-test .taken) (sym (tried (c .before)) ∙ c .if1 .taken)) ∙ l .before .loop .inv .1
