@@ -4,19 +4,20 @@ use mathlib.Core.Path.{_≡_, sym, _∙_}
 use mathlib.Core.Bool.{true}
 use mathlib.Core.List.{List}
 use Prim.Native.Nat.{ℕ, _≤_}
-use lib.Dec.{leb, eqb}
+use lib.Dec.{eqb}
 use lib.ListN.{length}
-use borrow.Author.Tests.{leb-true, eqb-true, not-false}
+use borrow.Author.Tests.{eqb-true, not-false}
 use Rattle.parts.proofs.Same.{both-left, both-right}
 use Rattle.machine.specs.Size.{isLegal, leastLength, mostLength, vectorFile, predicateFile, Files}
 use Rattle.machine.specs.Refusal.{filesTests, refused}
 use Rattle.machine.proofs.Tests.{first-none}
+use Rattle.machine.proofs.Legal.{legal-exactly}
 
 pub legal-least : (k : ℕ) → isLegal k ≡ true → leastLength ≤ k
-legal-least k e = leb-true leastLength k (both-left _ (leb k mostLength) e)
+legal-least k e = legal-exactly k .0 e .least
 
 pub legal-most : (k : ℕ) → isLegal k ≡ true → k ≤ mostLength
-legal-most k e = leb-true k mostLength (both-right (leb leastLength k) _ e)
+legal-most k e = legal-exactly k .0 e .most
 
 -- files that are not refused
 pub files-checked : (k : ℕ) (z p : List ℕ) (r : ℕ) → r ≡ refused (filesTests k (length z) (length p)) → r ≡ 0 → Files k z p

@@ -1,8 +1,8 @@
 -- The machine's sizes. A length k stands for vectors of 16k bytes; each number is named here once.
-use Prim.Native.Nat.{ℕ, _*_, _%_}
+use Prim.Native.Nat.{ℕ, _*_, _%_, _^_, _≤_}
 use mathlib.Core.Path.{_≡_}
-use mathlib.Core.Bool.{Bool, true}
-use mathlib.Core.List.{List}
+use mathlib.Core.Bool.{Bool, true, false, cond}
+use mathlib.Core.List.{List, [], _∷_}
 use lib.Dec.{leb, eqb}
 use lib.ListN.{length}
 use Rattle.parts.specs.Part.{both}
@@ -28,9 +28,24 @@ governing = 8
 abbrev pub sizes : ℕ
 sizes = 4
 
--- a length that the machine may have
+-- one of some numbers
+abbrev pub isAmong : ℕ → List ℕ → Bool
+isAmong n [] = false
+isAmong n (m ∷ ms) = cond (eqb n m) true (isAmong n ms)
+
+-- a length that the machine may have: 1, 2, 4, 8 or 16
+abbrev pub lengths : List ℕ
+lengths = leastLength ∷ 2 ∷ 4 ∷ 8 ∷ mostLength ∷ []
+
 abbrev pub isLegal : ℕ → Bool
-isLegal k = both (leb leastLength k) (leb k mostLength)
+isLegal k = isAmong k lengths
+
+-- such a length in the manual's words: a power of two from the least to the most
+pub record Legal (k : ℕ) : Type 0 where
+  pub exponent : ℕ
+  pub power : k ≡ 2 ^ exponent
+  pub least : leastLength ≤ k
+  pub most : k ≤ mostLength
 
 -- the bytes of a segment, and those of a predicate that govern it: a bit for each byte
 abbrev pub segmentBytes : ℕ

@@ -23,15 +23,15 @@ impl Length {
 
     pub const MOST: usize = 16;
 
-    // Whether k is a length that the machine may have.
+    // Whether k is a length that the machine may have: a power of two from the least to the most.
     pub fn is_legal(self) -> bool
         ensures { λ r. ⌜ r ≡ isLegal (self .k) ⌝ }
     {
         let k = self.k;
-        if k < Length::LEAST {
-            return false;
+        match k {
+            1 | 2 | 4 | 8 | 16 => true,
+            _ => false,
         }
-        k <= Length::MOST
     }
 
     pub const SEGMENT_BYTES: usize = 16;

@@ -12,9 +12,9 @@ use borrow.Author.Tests.{eqb-true, eq-eqb, leb-true, le-leb}
 use borrow.Rule.Slice.PartMut.{mid-len}
 use Rattle.parts.proofs.Same.{both-left, both-right, same-true}
 use Rattle.parts.specs.Part.{both, sameBytes}
-use Rattle.machine.specs.Size.{leastLength, mostLength, mostWords, isLegal, wordBytes}
+use Rattle.machine.specs.Size.{mostWords, isLegal, wordBytes}
 use Rattle.machine.specs.Refusal.{DONE, SESSION, inOrder, refused, filesTests, programTests}
-use Rattle.machine.proofs.Checks.{legal-least, legal-most}
+use Rattle.machine.proofs.Legal.{legal-exactly}
 use Rattle.machine.proofs.Tests.{one-result}
 use Rattle.session.specs.declared.Session.{Session}
 use Rattle.session.specs.Layout.{mark, sessionFormat, sessionMark, sessionVersion, sessionLength, wordCount, sessionHeader, predicatesAt, programAt, endAt, mostSession}
@@ -49,14 +49,10 @@ tested bytes e =
     record {
       marked = same-true _ _ (both-left _ (eqb (sessionVersion bytes) sessionFormat) headed);
       versioned = eqb-true _ _ (both-right (sameBytes (sessionMark bytes) mark) _ headed);
-      least = legal-least _ (s .legal);
-      most = legal-most _ (s .legal);
+      legal = legal-exactly _ .0 (s .legal);
       few = s .few;
       whole = s .whole;
     }
-
-legal-between : (k : ℕ) → leastLength ≤ k → k ≤ mostLength → isLegal k ≡ true
-legal-between k least most = rw (le-leb _ _ least, le-leb _ _ most)
 
 passes : (bytes : List ℕ) → IsSession bytes → isSession bytes ≡ true
 passes bytes s =
@@ -65,7 +61,7 @@ passes bytes s =
       le-leb _ _ header,
       s .marked,
       eq-eqb _ _ (s .versioned),
-      legal-between _ (s .least) (s .most),
+      legal-exactly _ .1 (s .legal),
       le-leb _ _ (s .few),
       eq-eqb _ _ (s .whole),
     )
@@ -83,7 +79,7 @@ session-exactly bytes = go (isSession bytes) refl
 
 -- no session is longer than the longest, so an input of one byte more is seen to be none
 pub session-most : (bytes : List ℕ) → IsSession bytes → length bytes ≤ mostSession
-session-most bytes s = omega (arith, s .whole, s .most, s .few)
+session-most bytes s = omega (arith, s .whole, s .legal .most, s .few)
 
 -- a session that is not refused: its parts have exactly the sizes of its length
 done-session : (bytes : List ℕ) → sessionOf bytes .number ≡ DONE → IsSession bytes
@@ -100,7 +96,7 @@ placed-parts bytes s =
       whole = sym (s .whole);
       files =
           record {
-            legal = legal-between k (s .least) (s .most);
+            legal = legal-exactly k .1 (s .legal);
             vectorSize = mid-len sessionHeader (predicatesAt k) bytes (omega (arith, s .whole)) ∙ omega arith;
             predicateSize = mid-len (predicatesAt k) (programAt k) bytes (omega (arith, s .whole)) ∙ omega arith;
           };

@@ -7,7 +7,7 @@ use lib.Dec.{eqb, leb}
 use lib.ListN.{length}
 use Rattle.parts.specs.Part.{both, part, sameBytes}
 use Rattle.parts.specs.Number.{numberAt}
-use Rattle.machine.specs.Size.{leastLength, mostLength, isLegal, vectorFile, predicateFile, wordBytes, mostWords, Files}
+use Rattle.machine.specs.Size.{mostLength, isLegal, Legal, vectorFile, predicateFile, wordBytes, mostWords, Files}
 use Rattle.machine.specs.Refusal.{DONE, SESSION, Test, test, refused, unlessRefused}
 use Rattle.session.specs.declared.Session.{Session}
 
@@ -126,8 +126,7 @@ programPart s bytes = part (s .program) (s .end - s .program) bytes
 pub record IsSession (bytes : List ℕ) : Type 0 where
   pub marked : sessionMark bytes ≡ mark
   pub versioned : sessionVersion bytes ≡ sessionFormat
-  pub least : leastLength ≤ sessionLength bytes
-  pub most : sessionLength bytes ≤ mostLength
+  pub legal : Legal (sessionLength bytes)
   pub few : wordCount bytes ≤ mostWords
   pub whole : length bytes ≡ endAt (sessionLength bytes) (wordCount bytes)
 

@@ -146,7 +146,7 @@ fn show_length(k: usize)
 }
 
 fn main() {
-    show_length(1);
-    show_length(5);
-    show_length(16);
+    show_length(Length::LEAST);
+    show_length(4);
+    show_length(Length::MOST);
 }

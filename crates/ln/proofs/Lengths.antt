@@ -1,0 +1,54 @@
+-- A length that is no power of two from the least to the most, however large: each call that is lent it answers LENGTH, whatever else it is
+-- lent, and bytes that name it are no session.
+-- Assumes nothing.
+use Prim.Native.Nat.{ℕ}
+use mathlib.Core.Path.{_≡_}
+use mathlib.Core.Logic.{⊎-elim}
+use mathlib.Core.List.{List}
+use Rattle.machine.specs.Size.{Legal}
+use Rattle.machine.specs.Refusal.{LENGTH, SESSION}
+use Rattle.machine.proofs.Legal.{illegal}
+use Rattle.registers.specs.State.{State}
+use Rattle.registers.specs.declared.Kind.{Kind}
+use Rattle.pane.specs.Drawn.{registerRefused}
+use Rattle.totals.specs.Calls.{panelRefused, subtotalRefused}
+use Rattle.totals.specs.Written.{panelWrittenRefused}
+use Rattle.journal.specs.Calls.{freshRefused, stepRefused, backRefused, positionRefused}
+use Rattle.lines.specs.Line.{lineRefused}
+use Rattle.session.specs.Layout.{sessionLength, sessionOf}
+use Rattle.session.proofs.Reading.{session-exactly}
+
+module _ (k : ℕ) (none : Legal k → ⊥) where
+  pub fresh-length : (journal : List ℕ) → freshRefused k journal ≡ LENGTH
+  fresh-length journal = rw (illegal k none)
+
+  pub position-length : (journal : List ℕ) → positionRefused k journal ≡ LENGTH
+  unfolding positionRefused
+  position-length journal = rw (illegal k none)
+
+  pub register-length : (z p : List ℕ) (kind : Kind) (r : ℕ) → registerRefused k z p kind r ≡ LENGTH
+  register-length z p kind r = rw (illegal k none)
+
+  pub panel-length : (z p : List ℕ) (source governing size : ℕ) → panelRefused k z p source governing size ≡ LENGTH
+  panel-length z p source governing size = rw (illegal k none)
+
+  pub panel-written-length : (z p : List ℕ) (source governing size n : ℕ) → panelWrittenRefused k z p source governing size n ≡ LENGTH
+  panel-written-length z p source governing size n = rw (illegal k none)
+
+  pub subtotal-length : (z p : List ℕ) (source governing size a b : ℕ) → subtotalRefused k z p source governing size a b ≡ LENGTH
+  subtotal-length z p source governing size a b = rw (illegal k none)
+
+  pub step-length : (s : State) (program journal : List ℕ) → stepRefused k s program journal ≡ LENGTH
+  unfolding stepRefused
+  step-length s program journal = rw (illegal k none)
+
+  pub back-length : (s : State) (journal : List ℕ) → backRefused k s journal ≡ LENGTH
+  unfolding backRefused
+  back-length s journal = rw (illegal k none)
+
+  pub line-length : (s : State) (program : List ℕ) (position number n : ℕ) → lineRefused k s program position number n ≡ LENGTH
+  unfolding lineRefused
+  line-length s program position number n = rw (illegal k none)
+
+pub session-length : (bytes : List ℕ) → (Legal (sessionLength bytes) → ⊥) → sessionOf bytes .number ≡ SESSION
+session-length bytes none = ⊎-elim (λ h. absurd (none (h .1 .legal))) (λ h. h .0) (session-exactly bytes)
