@@ -12,9 +12,11 @@
  * The library keeps no pointer after a call and has no state of its own: calls on other bytes may run
  * at the same time.
  *
- * The machine. A length k, 1 to 16, stands for vectors of 16k bytes. The vector file is Z0 to Z31 one
- * after the other, 16k bytes each; the predicate file is P0 to P15, 2k bytes each. V<n> is the low 16
- * bytes of Z<n>, and a word that writes V<n> sets the higher bytes of Z<n> to zero. P0 to P7 can govern.
+ * The machine. A length k, one of 1, 2, 4, 8 and 16, stands for vectors of 16k bytes. Every other length
+ * is refused, those between too: Arm's manual has powers of two alone, so a layout at k = 3, 384 bits,
+ * would fit no chip. The vector file is Z0 to Z31 one after the other, 16k bytes each; the predicate file
+ * is P0 to P15, 2k bytes each. V<n> is the low 16 bytes of Z<n>, and a word that writes V<n> sets the
+ * higher bytes of Z<n> to zero. P0 to P7 can govern.
  *
  * Lanes. A size is 0, 1, 2 or 3 for lanes of 1, 2, 4 or 8 bytes; their letters are b, h, s and d. With
  * w bytes to a lane, lane e is the bytes e*w up to e*w + w - 1 of its register, the lowest byte first;
@@ -59,7 +61,7 @@ extern "C" {
 #endif
 
 /* The version of this header and its library. It grows with every change that a program can notice. */
-#define LN_VERSION 3
+#define LN_VERSION 4
 
 /* The versions of the stored forms. */
 #define LN_JOURNAL_VERSION 1
@@ -68,7 +70,7 @@ extern "C" {
 /* The answer numbers. Later versions may have more. */
 enum ln_number {
     LN_DONE = 0,      /* done */
-    LN_LENGTH = 1,    /* k is not 1 to 16 */
+    LN_LENGTH = 1,    /* k is not 1, 2, 4, 8 or 16 */
     LN_FILE = 2,      /* vector file not 512k bytes, or predicate file not 32k */
     LN_PROGRAM = 3,   /* program not whole words, or over 256 words */
     LN_ROOM = 4,      /* journal under 8 or over 65,536 bytes */
@@ -119,6 +121,7 @@ enum ln_row {
 /* Sizes of the machine. */
 #define LN_LEAST_K 1
 #define LN_MOST_K 16
+#define LN_LENGTHS {1, 2, 4, 8, 16} /* every k that is accepted, to start an array with */
 #define LN_VECTOR_REGISTERS 32
 #define LN_PREDICATE_REGISTERS 16
 #define LN_GOVERNING_REGISTERS 8

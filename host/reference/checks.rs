@@ -2,8 +2,13 @@
 
 use ghishmadul::Refusal;
 
+/// A power of two from 1 to 16.
+pub fn is_length(k: usize) -> bool {
+    k.is_power_of_two() && k <= 16
+}
+
 pub fn length(k: usize) -> Result<(), Refusal> {
-    if (1..=16).contains(&k) {
+    if is_length(k) {
         Ok(())
     } else {
         Err(Refusal::Length)

@@ -9,7 +9,7 @@ pub fn read_session(bytes: &[u8]) -> Result<Session, Refusal> {
     let k = header[5] as usize;
     let count = u16::from_le_bytes([header[6], header[7]]) as usize;
     let well_formed = header[..5] == *b"LNW\x01\x00"
-        && (1..=16).contains(&k)
+        && checks::is_length(k)
         && count <= 256
         && bytes.len() == 8 + 544 * k + 4 * count;
     if well_formed {

@@ -7,13 +7,15 @@
 //! Nothing has to be checked before a call: every call ends for every input, with its answer or with a
 //! [`Refusal`], and a refusal changes no byte that was lent.
 //!
-//! A length `k` is 1 to 16. The vector file `z` has `512 * k` bytes, 32 registers of `16 * k`; the
-//! predicate file `p` has `32 * k` bytes, 16 registers of `2 * k`. A size is 0, 1, 2 or 3 for lanes of
-//! 1, 2, 4 or 8 bytes. Lane 0 is the least significant and bytes are little-endian everywhere. A lane
-//! of `w` bytes with number `e` is active exactly when bit `e * w` of its predicate is set, counted
-//! from bit 0 of the first byte; the other bits do not matter. A program is whole 32-bit words, at
-//! most 256 of them. The position is the number of steps that were made and not taken back, and so
-//! the number of the next word. `include/ln.h` has the layouts of journals and sessions.
+//! A length `k` is one of [`LENGTHS`]: 1, 2, 4, 8 or 16. Every other is refused: Arm's manual has powers
+//! of two alone, so a layout at another length would fit no chip. The vector file `z` has `512 * k`
+//! bytes, 32 registers of `16 * k`; the predicate file `p` has `32 * k` bytes, 16 registers of `2 * k`.
+//! A size is 0, 1, 2 or 3 for lanes of 1, 2, 4 or 8 bytes. Lane 0 is the least significant and bytes are
+//! little-endian everywhere. A lane of `w` bytes with number `e` is active exactly when bit `e * w` of
+//! its predicate is set, counted from bit 0 of the first byte; the other bits do not matter. A program
+//! is whole 32-bit words, at most 256 of them. The position is the number of steps that were made and
+//! not taken back, and so the number of the next word. `include/ln.h` has the layouts of journals and
+//! sessions.
 
 #![deny(missing_docs)]
 
@@ -30,6 +32,8 @@ use std::ops::Range;
 pub const LEAST_K: usize = 1;
 /// The most length.
 pub const MOST_K: usize = 16;
+/// Every length that is accepted: the powers of two from the least to the most.
+pub const LENGTHS: [usize; 5] = [LEAST_K, 2, 4, 8, MOST_K];
 /// The number of vector registers.
 pub const VECTOR_REGISTERS: usize = 32;
 /// The number of predicate registers.
@@ -49,8 +53,8 @@ pub const PANEL_BYTES: usize = 256;
 
 /// The bytes of a vector register; a predicate register has an eighth as many.
 ///
-/// This and the other sizes are for lengths from 1 to 16. For a `k` that is too large for a number to
-/// tell, they give the largest number.
+/// This and the other sizes are for the [`LENGTHS`]. For a `k` that is too large for a number to tell,
+/// they give the largest number.
 pub const fn vector_bytes(k: usize) -> usize {
     k.saturating_mul(16)
 }

@@ -9,7 +9,7 @@ use std::fmt;
 #[derive(Clone, Copy, Debug, PartialEq, Eq, Hash)]
 #[non_exhaustive]
 pub enum Refusal {
-    /// 1: k is not 1 to 16.
+    /// 1: k is not 1, 2, 4, 8 or 16.
     Length,
     /// 2: the vector file has not 512k bytes, or the predicate file not 32k.
     File,
@@ -53,7 +53,7 @@ impl Refusal {
     /// The number, the name and a sentence.
     fn said(self) -> (u64, &'static str, &'static str) {
         match self {
-            Length => (1, "LENGTH", "the length is not 1 to 16"),
+            Length => (1, "LENGTH", "the length is not 1, 2, 4, 8 or 16"),
             File => (2, "FILE", "the vector or the predicate file has the wrong size"),
             Program => (3, "PROGRAM", "the program is not whole words, or over 256 of them"),
             Room => (4, "ROOM", "the journal has under 8 or over 65,536 bytes"),

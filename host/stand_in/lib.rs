@@ -171,7 +171,7 @@ pub unsafe extern "C" fn ln_read_word(program: *const u8, program_len: usize, at
 
 #[no_mangle]
 pub unsafe extern "C" fn ln_read_session(bytes: *const u8, bytes_len: usize) -> Session {
-    match reference::read_session(lent(bytes, bytes_len)) {
+    match slips::read_session(lent(bytes, bytes_len)) {
         Ok(session) => Session {
             number: 0,
             k: session.k as u64,

@@ -1,6 +1,6 @@
 //! The reference with the slip of `slips.txt` that the variable SLIP names; none if none is named.
 
-use ghishmadul::{Fields, Lanes, Refusal};
+use ghishmadul::{Fields, Lanes, Refusal, Session};
 use reference::TABLE;
 use std::ops::Range;
 
@@ -101,6 +101,24 @@ pub fn position(k: usize, journal: &[u8]) -> Result<usize, Refusal> {
     match reference::position(k, journal) {
         Err(Refusal::Journal) if slips("the position of any journal told") => {
             count(journal).ok_or(Refusal::Journal)
+        }
+        Err(Refusal::Length) if slips("length 12 let in") && k == 12 => {
+            count(journal).ok_or(Refusal::Room)
+        }
+        Err(Refusal::Length) if slips("a length's low byte alone tested") => {
+            reference::position(k & 255, journal)
+        }
+        Ok(_) if slips("length 16 refused") && k == 16 => Err(Refusal::Length),
+        answer => answer,
+    }
+}
+
+pub fn read_session(bytes: &[u8]) -> Result<Session, Refusal> {
+    let program = 8 + 544 * 6;
+    match reference::read_session(bytes) {
+        Err(_) if slips("a session of length 6 let in") && bytes.get(5) == Some(&6) => {
+            let words = bytes.len().checked_sub(program).ok_or(Refusal::Session)?;
+            Ok(Session { k: 6, count: words / 4, vectors: 8, predicates: 8 + 512 * 6, program })
         }
         answer => answer,
     }

@@ -1,5 +1,6 @@
-/* The numbers and names of include/ln.h, a line each, then the rows of the table of words, then the line
- * of a step with the greatest answer number; the crate and its reference have the same. */
+/* The numbers and names of include/ln.h, a line each, with the lengths that are accepted; then the rows
+ * of the table of words, then the line of a step with the greatest answer number. The crate and its
+ * reference have the same. */
 #include "ln.h"
 
 #include <stdio.h>
@@ -7,6 +8,23 @@
 static void say(const char *name, size_t value)
 {
     printf("%s %lu\n", name, (unsigned long)value);
+}
+
+/* The lengths, and those that a call accepts. */
+static void say_lengths(void)
+{
+    static const size_t lengths[] = LN_LENGTHS;
+    uint8_t journal[LN_LEAST_JOURNAL_BYTES];
+    size_t k;
+
+    for (k = 0; k < sizeof lengths / sizeof *lengths; k++) {
+        say("LENGTHS", lengths[k]);
+    }
+    for (k = 0; k <= LN_MOST_K + 1; k++) {
+        if (ln_fresh(k, journal, sizeof journal) == LN_DONE) {
+            say("fresh", k);
+        }
+    }
 }
 
 /* The line of a step at k = 1 over a word of zeros, with the greatest answer number. */
@@ -54,6 +72,7 @@ int main(void)
 
     say("LEAST_K", LN_LEAST_K);
     say("MOST_K", LN_MOST_K);
+    say_lengths();
     say("VECTOR_REGISTERS", LN_VECTOR_REGISTERS);
     say("PREDICATE_REGISTERS", LN_PREDICATE_REGISTERS);
     say("MOST_WORDS", LN_MOST_WORDS);
@@ -62,11 +81,11 @@ int main(void)
     say("LEAST_TEXT_OUT", LN_LEAST_TEXT_OUT);
     say("LONGEST_LINE", LN_LONGEST_LINE);
     say("PANEL_BYTES", LN_PANEL_BYTES);
-    say("VECTOR_BYTES(3)", LN_VECTOR_BYTES(3));
-    say("PREDICATE_BYTES(3)", LN_PREDICATE_BYTES(3));
-    say("VECTOR_FILE_BYTES(3)", LN_VECTOR_FILE_BYTES(3));
-    say("PREDICATE_FILE_BYTES(3)", LN_PREDICATE_FILE_BYTES(3));
-    say("JOURNAL_BYTES(3, 5)", LN_JOURNAL_BYTES(3, 5));
+    say("VECTOR_BYTES(4)", LN_VECTOR_BYTES(4));
+    say("PREDICATE_BYTES(4)", LN_PREDICATE_BYTES(4));
+    say("VECTOR_FILE_BYTES(4)", LN_VECTOR_FILE_BYTES(4));
+    say("PREDICATE_FILE_BYTES(4)", LN_PREDICATE_FILE_BYTES(4));
+    say("JOURNAL_BYTES(4, 5)", LN_JOURNAL_BYTES(4, 5));
     for (number = LN_LENGTH; number <= LN_SESSION + 1; number++) {
         say(ln_refusal_name(number), (size_t)number);
     }

@@ -5,9 +5,11 @@ use ghishmadul::*;
 
 #[test]
 fn the_header_has_the_same_numbers() {
+    let ends = [("LEAST_K", LEAST_K), ("MOST_K", MOST_K)];
+    let lengths = LENGTHS.iter().map(|&k| ("LENGTHS", k));
+    let accepted = (0..=MOST_K + 1).filter(|&k| fresh(k, &mut [0; 8]).is_ok());
+    let lengths = lengths.chain(accepted.map(|k| ("fresh", k)));
     let sizes = [
-        ("LEAST_K", LEAST_K),
-        ("MOST_K", MOST_K),
         ("VECTOR_REGISTERS", VECTOR_REGISTERS),
         ("PREDICATE_REGISTERS", PREDICATE_REGISTERS),
         ("MOST_WORDS", MOST_WORDS),
@@ -16,13 +18,14 @@ fn the_header_has_the_same_numbers() {
         ("LEAST_TEXT_OUT", LEAST_TEXT_OUT),
         ("LONGEST_LINE", LONGEST_LINE),
         ("PANEL_BYTES", PANEL_BYTES),
-        ("VECTOR_BYTES(3)", vector_bytes(3)),
-        ("PREDICATE_BYTES(3)", predicate_bytes(3)),
-        ("VECTOR_FILE_BYTES(3)", vector_file_bytes(3)),
-        ("PREDICATE_FILE_BYTES(3)", predicate_file_bytes(3)),
-        ("JOURNAL_BYTES(3, 5)", journal_bytes(3, 5)),
+        ("VECTOR_BYTES(4)", vector_bytes(4)),
+        ("PREDICATE_BYTES(4)", predicate_bytes(4)),
+        ("VECTOR_FILE_BYTES(4)", vector_file_bytes(4)),
+        ("PREDICATE_FILE_BYTES(4)", predicate_file_bytes(4)),
+        ("JOURNAL_BYTES(4, 5)", journal_bytes(4, 5)),
     ];
-    let sizes = sizes.iter().map(|(name, value)| format!("{} {}\n", name, value));
+    let sizes = ends.into_iter().chain(lengths).chain(sizes);
+    let sizes = sizes.map(|(name, value)| format!("{} {}\n", name, value));
     let after_the_last = Refusal::ALL.len() as u64 + 1;
     let refusals = Refusal::ALL.iter().copied().chain([Refusal::Unlisted(after_the_last)]);
     let names = refusals.map(|refusal| format!("{} {}\n", refusal.name(), refusal.number()));

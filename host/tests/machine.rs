@@ -6,7 +6,7 @@ mod random;
 
 use ghishmadul::{
     journal_bytes, predicate_bytes, predicate_file_bytes, vector_bytes, vector_file_bytes, Kind,
-    Lanes, Machine, Refusal, MOST_JOURNAL_BYTES,
+    Lanes, Machine, Refusal, LENGTHS, MOST_JOURNAL_BYTES,
 };
 use random::Random;
 
@@ -110,7 +110,7 @@ impl Beside {
 #[test]
 fn a_machine_moves_as_the_reference_does() {
     let mut random = Random::new(1);
-    for k in (1..=16).cycle().take(200) {
+    for &k in LENGTHS.iter().cycle().take(200) {
         let mut beside = Beside::new(&mut random, k);
         for _ in 0..60 {
             if random.one_in(3) {
@@ -129,7 +129,7 @@ fn what_is_no_machine_is_refused() {
     let made = |k, words: usize, bytes| Machine::with_room(k, &vec![0; words], bytes).err();
     assert_eq!(made(1, 256, 8), None);
     assert_eq!(made(16, 0, MOST_JOURNAL_BYTES), None);
-    for k in [0, 17, usize::MAX] {
+    for k in (0..40).filter(|k| !LENGTHS.contains(k)).chain([usize::MAX]) {
         assert_eq!(made(k, 257, 7), Some(Refusal::Length));
     }
     assert_eq!(made(1, 257, 7), Some(Refusal::Program));
@@ -141,7 +141,7 @@ fn what_is_no_machine_is_refused() {
 #[test]
 fn room_is_what_the_journal_holds() {
     let word = ghishmadul::assemble("saddv d0, p0, z0.b").expect("an accepted text");
-    for (k, room) in [(1, 256), (15, 256), (16, 254)] {
+    for (k, room) in [(1, 256), (8, 256), (16, 254)] {
         let mut machine = Machine::new(k, &[word; 256]).expect("a machine");
         assert_eq!(machine.room().min(256), room);
         let lines = machine.walk();
@@ -150,7 +150,7 @@ fn room_is_what_the_journal_holds() {
         let next = machine.step();
         assert_eq!(next, Err(if room < 256 { Refusal::Full } else { Refusal::End }));
     }
-    let machine = Machine::with_room(3, &[word], journal_bytes(3, 5)).expect("a machine");
+    let machine = Machine::with_room(4, &[word], journal_bytes(4, 5)).expect("a machine");
     assert_eq!(machine.room(), 5);
 }
 

@@ -74,7 +74,7 @@ const CASES: [Case; 14] = [
     },
     Case {
         name: "M5",
-        k: 3,
+        k: 4,
         text: "uaddlv h0, v1.16b",
         old: NOISE,
         source: &[0xFF],
@@ -83,7 +83,7 @@ const CASES: [Case; 14] = [
     },
     Case {
         name: "M6",
-        k: 3,
+        k: 4,
         text: "uaddlv s0, v1.8h",
         old: NOISE,
         source: &[0xFF],
@@ -92,7 +92,7 @@ const CASES: [Case; 14] = [
     },
     Case {
         name: "M7",
-        k: 3,
+        k: 4,
         text: "saddlv s0, v1.4h",
         old: NOISE,
         source: &[0x00, 0x80],
@@ -172,7 +172,7 @@ const fn lanes(
     source: &'static [u8],
     new: &'static [u8],
 ) -> Case {
-    Case { name, k: 3, text, old, source, predicate: &[0], new: Again(new) }
+    Case { name, k: 4, text, old, source, predicate: &[0], new: Again(new) }
 }
 
 #[rustfmt::skip]

@@ -4,6 +4,9 @@
 #[path = "compare/inputs.rs"]
 #[allow(dead_code)]
 mod inputs;
+#[path = "compare/lengths.rs"]
+#[allow(dead_code)]
+mod lengths;
 #[path = "compare/random.rs"]
 #[allow(dead_code)]
 mod random;

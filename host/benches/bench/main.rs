@@ -524,7 +524,7 @@ fn time_growth(timer: &Timer) {
     println!("\na step by k, journal empty\n{:>6}{:>12}{:>16}", "k", "engine ns", "ns by segment");
     let first = engine(1, 0);
     println!("{:>6}{:>12.0}{:>16}", 1, first, "-");
-    for k in [2, 4, 8, 12, 16] {
+    for k in [2, 4, 8, 16] {
         let next = engine(k, 0);
         println!("{:>6}{:>12.0}{:>16.1}", k, next, (next - first) / (k - 1) as f64);
     }

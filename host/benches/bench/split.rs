@@ -14,7 +14,7 @@ pub fn subtotal(
     range: Range<usize>,
 ) -> Result<u64, Refusal> {
     let Lanes { source, governing, size } = lanes;
-    if !(1..=16).contains(&k) {
+    if !k.is_power_of_two() || k > 16 {
         return Err(Refusal::Length);
     }
     if z.len() != 512 * k || p.len() != 32 * k {

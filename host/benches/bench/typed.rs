@@ -225,7 +225,7 @@ pub fn step(
     program: &[u8],
     journal: &mut [u8],
 ) -> Result<(), Refusal> {
-    if !(1..=16).contains(&k) {
+    if !k.is_power_of_two() || k > 16 {
         return Err(Refusal::Length);
     }
     let bytes = 16 * k;

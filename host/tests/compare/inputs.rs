@@ -1,5 +1,6 @@
 //! Inputs for the comparison: valid ones, damaged ones and noise.
 
+use crate::lengths::{low_bits, LEGAL, REFUSED};
 use crate::random::Random;
 use reference::{Row, TABLE};
 
@@ -57,25 +58,29 @@ pub fn accepted_word(random: &mut Random) -> u32 {
     }
 }
 
-/// A length: mostly a legal one.
+/// A length that there is.
+pub fn legal_length(random: &mut Random) -> usize {
+    random.pick(&LEGAL)
+}
+
+/// A length: mostly a legal one; sometimes another up to 17, one that is legal in its low bits, or a
+/// large one.
 pub fn length(random: &mut Random) -> usize {
-    let legal = 1 + random.below(16);
+    let legal = legal_length(random);
     match random.below(40) {
-        0 => 0,
-        1 => 17,
-        2 => random.pick(&[
-            18,
-            255,
-            256 + legal,
-            65_536 + legal,
-            1 << 55,
-            1 << 59,
-            1 << 63,
-            (1 << 32) + legal,
-            (1 << 63) + legal,
-            usize::MAX,
-        ]),
+        0..=4 => random.pick(&REFUSED),
+        5 => legal + random.pick(&[1 << 5, 1 << 8, 1 << 16, 1 << 32, 1 << 63]),
+        6 => random.pick(&[18, 24, 31, 32, 64, 255, 256, 1 << 55, 1 << 59, 1 << 63, usize::MAX]),
         _ => legal,
+    }
+}
+
+/// The length to lay parts out for: one that is too large is taken for its low bits.
+fn laid_out_for(k: usize) -> usize {
+    if k <= 17 {
+        k
+    } else {
+        low_bits(k).clamp(1, 16)
     }
 }
 
@@ -115,7 +120,7 @@ fn slipped(random: &mut Random, bytes: usize, unit: usize) -> usize {
 
 /// Both files for a length.
 pub fn files(random: &mut Random, k: usize, z: &mut Vec<u8>, p: &mut Vec<u8>) {
-    let like = if k <= 17 { k } else { 1 + k % 16 };
+    let like = laid_out_for(k);
     let mut vectors = 512 * like;
     let mut predicates = 32 * like;
     match random.below(40) {
@@ -155,7 +160,7 @@ pub fn program(random: &mut Random, program: &mut Vec<u8>) {
 
 /// A journal with some entries, mostly well formed, mostly below the end of a program of so many words.
 pub fn journal(random: &mut Random, k: usize, words: usize, journal: &mut Vec<u8>) {
-    let like = if k <= 16 { k } else { 1 + k % 16 };
+    let like = laid_out_for(k);
     let entry = 1 + 16 * like;
     let most = ((MOST_JOURNAL - 8) / entry).min(256);
     let mut count = match random.below(8) {
@@ -322,9 +327,17 @@ fn pieces(random: &mut Random, text: &mut Vec<u8>) {
     text.extend(made.as_bytes());
 }
 
+/// A length that no session has and a byte holds.
+fn session_length(random: &mut Random) -> usize {
+    match random.below(4) {
+        0 => random.pick(&[18, 24, 32, 33, 34, 36, 40, 48, 64, 80]),
+        _ => random.pick(&REFUSED),
+    }
+}
+
 /// A session, valid or with one thing wrong.
 pub fn session(random: &mut Random, session: &mut Vec<u8>) {
-    let k = 1 + random.below(16);
+    let k = legal_length(random);
     let any = random.below(257);
     let words = random.pick(&[0, 1, 2, 255, 256, any]);
     session.clear();
@@ -346,17 +359,17 @@ pub fn session(random: &mut Random, session: &mut Vec<u8>) {
             let place = random.below(8);
             session[place] = random.byte();
         }
-        4 => session[5] = random.pick(&[0, 17, 255]),
+        4 => session[5] = session_length(random) as u8,
         5 => {
-            // A count that is wrong, in a session of just its length.
+            // A count that is wrong, in a session of just its size.
             let words: u16 = random.pick(&[257, 258, 512]);
             session[6..8].copy_from_slice(&words.to_le_bytes());
             session.resize(8 + 544 * k + 4 * words as usize, 0);
         }
         6 => session.truncate(random.below(10)),
         7 => {
-            // A length that is wrong, in a session of just its length.
-            let k = random.pick(&[0, 17]);
+            // A length that is wrong, in a session of just its size.
+            let k = session_length(random);
             session[5] = k as u8;
             session.resize(8 + 544 * k + 4 * words, 0);
         }

@@ -6,6 +6,7 @@
 mod engine;
 mod guarded;
 mod inputs;
+mod lengths;
 mod random;
 mod reached;
 mod tally;
@@ -20,8 +21,8 @@ use tally::{Call, Tally};
 /// More than any length of a part.
 const MOST: usize = 70_000;
 
-/// So many inputs reach every answer of every call, and steps of every row, size and destination; fewer
-/// may miss some.
+/// So many inputs reach every answer of every call, every length that is refused, and steps of every row,
+/// size and destination; fewer may miss some.
 const ENOUGH: u64 = 100_000;
 
 const UNDEFINED: u64 = 8;
@@ -84,7 +85,7 @@ impl<'a> Comparison<'a> {
             let what = format!("engine {:?}, reference {:?}, given {:?}", engine, reference, given);
             self.stop(call, &what);
         }
-        self.tally.count(call, reference[0]);
+        self.tally.count(call, reference[0], given.first().copied());
     }
 
     /// Fails if a lent part of the engine has not the reference's bytes.
@@ -302,7 +303,7 @@ impl<'a> Comparison<'a> {
     /// Moves forward and back from a fresh journal; a back brings the former bytes again, and at the end
     /// the position is the number of steps that were not taken back.
     fn moves(&mut self) {
-        let k = 1 + self.random.below(16);
+        let k = inputs::legal_length(&mut self.random);
         let entry = 1 + 16 * k;
         let Comparison { random, parts, .. } = self;
         inputs::content(random, &mut parts.z, 512 * k);
@@ -463,7 +464,8 @@ impl<'a> Comparison<'a> {
         self.engine.out.set(&self.parts.out);
         let engine = way.read_session(self.engine.out.part());
         let reference = numbers(reference::read_session(&self.parts.out));
-        self.same(Call::ReadSession, engine, reference, &[]);
+        let given: Vec<usize> = lengths::of_a_session(&self.parts.out).into_iter().collect();
+        self.same(Call::ReadSession, engine, reference, &given);
         self.agree(Call::ReadSession, &["out"]);
     }
 
@@ -562,6 +564,6 @@ fn inputs_of_every_call_agree() {
     say(&format!("{} inputs compared, 0 differ, seed {}", tally.total(), seed));
     if !missing.is_empty() {
         say(&format!("not reached by these inputs: {}", missing));
-        assert!(inputs < ENOUGH, "so many inputs reach every answer and every row");
+        assert!(inputs < ENOUGH, "so many inputs reach every answer, every length and every row");
     }
 }

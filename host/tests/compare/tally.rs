@@ -1,5 +1,6 @@
-//! How often each call gave each answer, and which words were stepped.
+//! How often each call gave each answer, which lengths were refused, and which words were stepped.
 
+use crate::lengths::{self, Lengths};
 use crate::reached::Reached;
 use ghishmadul::Refusal;
 use std::fmt::Write;
@@ -38,15 +39,25 @@ const CALLS: [(&str, &[usize]); 13] = [
     ("write_line", &[1, 2, 3, 6, 7, 8, 11]),
 ];
 
+/// The refusals of a length: LENGTH, and SESSION where a session is read.
+const OF_A_LENGTH: [usize; 2] = [1, 14];
+
 #[derive(Default)]
 pub struct Tally {
     counts: [[u64; 15]; CALLS.len()],
+    lengths: [Lengths; CALLS.len()],
     steps: Reached,
 }
 
 impl Tally {
-    pub fn count(&mut self, call: Call, number: u64) {
-        self.counts[call as usize][number as usize] += 1;
+    /// Counts an answer; for a refused length `given` is that length.
+    pub fn count(&mut self, call: Call, number: u64, given: Option<usize>) {
+        let (call, number) = (call as usize, number as usize);
+        self.counts[call][number] += 1;
+        match given {
+            Some(k) if OF_A_LENGTH.contains(&number) => self.lengths[call].count(k),
+            _ => {}
+        }
     }
 
     /// Counts the word of a step that was done or refused for the word's size.
@@ -58,7 +69,8 @@ impl Tally {
         self.counts.iter().flatten().sum()
     }
 
-    /// A line for each call: its answers by number; then the words that were stepped.
+    /// A line for each call: its answers by number; then the lengths that were refused, and the words that
+    /// were stepped.
     pub fn table(&self) -> String {
         let mut table = format!("{:15}{:>9}", "call", "done");
         for number in 1..15 {
@@ -74,16 +86,41 @@ impl Tally {
                 }
             }
         }
-        table + "\n\n" + &self.steps.table()
+        table + "\n\n" + &self.refused_lengths() + "\n\n" + &self.steps.table()
     }
 
-    /// For each call the answers that it can give and that never came, and the words never stepped.
+    /// A line for each call that refuses lengths: how often each was refused.
+    fn refused_lengths(&self) -> String {
+        let mut table = format!("{:15}", "refused k");
+        lengths::names().for_each(|name| write!(table, "{:>6}", name).unwrap());
+        for (name, lengths) in self.by_length() {
+            write!(table, "\n{:15}{}", name, lengths.line()).unwrap();
+        }
+        table
+    }
+
+    /// The calls that refuse lengths, and what they refused.
+    fn by_length(&self) -> impl Iterator<Item = (&'static str, &Lengths)> {
+        let calls = CALLS.iter().zip(&self.lengths);
+        let refusing = calls.filter(|((_, refusals), _)| refuses_lengths(refusals));
+        refusing.map(|((name, _), lengths)| (*name, lengths))
+    }
+
+    /// For each call the answers that it can give and that never came, and the lengths that it never
+    /// refused; and the words never stepped.
     pub fn missing(&self) -> Vec<String> {
         let calls = CALLS.iter().zip(&self.counts);
         let answers =
             calls.filter_map(|((name, refusals), counts)| missing(name, refusals, counts));
-        answers.chain(self.steps.missing()).collect()
+        let lengths = self.by_length().flat_map(|(name, lengths)| {
+            lengths.missing().into_iter().map(move |k| format!("{} k {}", name, k))
+        });
+        answers.chain(lengths).chain(self.steps.missing()).collect()
     }
+}
+
+fn refuses_lengths(refusals: &[usize]) -> bool {
+    OF_A_LENGTH.iter().any(|number| refusals.contains(number))
 }
 
 fn missing(name: &str, refusals: &[usize], counts: &[u64]) -> Option<String> {
