@@ -5,7 +5,7 @@ from collections import namedtuple
 
 from .saying import Bad
 
-LEAST_K, MOST_K = 1, 16
+LENGTHS = 1, 2, 4, 8, 16  # the powers of two that Arm's manual has; a layout at another length would fit no chip
 MOST_WORDS = 256
 VECTORS, PREDICATES = 32, 16  # registers of each file
 MARK, VERSION, HEAD = b"LNW", 1, 8
@@ -14,6 +14,11 @@ JOURNAL = 65536  # bytes of walk's journal: eight, then entries of 1 + 16k
 
 # the length, each register's bytes, and the words as numbers
 Session = namedtuple("Session", "k vectors predicates words")
+
+
+def any_length():
+    """The lengths, for a sentence."""
+    return "%d, %d, %d, %d or %d" % LENGTHS
 
 
 def vector_bytes(k):
@@ -44,8 +49,8 @@ def unpacked(data):
     version, k, count = struct.unpack_from("<HBH", data, 3)
     if version != VERSION:
         raise Bad("it is no session: its version is %d, not %d" % (version, VERSION))
-    if not LEAST_K <= k <= MOST_K:
-        raise Bad("it is no session: its length k is %d, not %d to %d" % (k, LEAST_K, MOST_K))
+    if k not in LENGTHS:
+        raise Bad("it is no session: its length k is %d, not %s" % (k, any_length()))
     if count > MOST_WORDS:
         raise Bad("it is no session: it has %d words, and %d are the most" % (count, MOST_WORDS))
     files = HEAD + VECTORS * vector_bytes(k) + PREDICATES * predicate_bytes(k)

@@ -82,8 +82,8 @@ class Text:
     def length(self, rest):
         if self.k is not None:
             raise Bad("the length is given twice")
-        if len(rest) != 1 or not re.match(r"[1-9][0-9]?\Z", rest[0]) or int(rest[0]) > layout.MOST_K:
-            raise Bad("a length is one number from %d to %d, as 'k 1'%s" % (layout.LEAST_K, layout.MOST_K, not_this(rest)))
+        if len(rest) != 1 or rest[0] not in map(str, layout.LENGTHS):
+            raise Bad("a length is %s, as 'k 1'%s" % (layout.any_length(), not_this(rest)))
         self.k = int(rest[0])
 
     def start(self, rest):

@@ -9,7 +9,7 @@ from .common import expect, make, read, show, walk
 
 def any_session(dice, length=None):
     """A session with some registers zero, some short, some full; accepted words and others."""
-    k = length or dice.choice((1, 2, 3, 4, 8, 15, 16))
+    k = length or dice.choice(layout.LENGTHS)
 
     def register(size):
         kind = dice.randrange(4)
@@ -43,6 +43,24 @@ def check():
     text = show("-", stdin=paper).expect(0).out
     make("-", stdin=text).expect(0, out=paper)
     no_sessions(paper, dice)
+    lengths()
+
+
+def refused(data):
+    """Why bin/ finds no session in the bytes; nothing where they are one. walk prints 14 exactly where there is a reason."""
+    try:
+        layout.unpacked(data)
+        reason = ""
+    except saying.Bad as bad:
+        reason = str(bad)
+    expect((walk(data) == "14\n") == bool(reason), "walk and bin/ differ on", data[:12], "of", str(len(data)), reason)
+    return reason
+
+
+def lengths():
+    """Of all that a byte can say, five are lengths."""
+    taken = [k for k in range(256) if not refused(b"LNW" + struct.pack("<HBH", 1, k, 0) + bytes(544 * k))]
+    expect(taken == [1, 2, 4, 8, 16], "the lengths that are taken are", taken)
 
 
 def no_sessions(paper, dice):
@@ -52,10 +70,5 @@ def no_sessions(paper, dice):
         for _ in range(40):
             wrong.append(paper[:place] + dice.randbytes(1) + paper[place + 1:])
     for data in wrong:
-        try:
-            layout.unpacked(data)
-            reason = ""
-        except saying.Bad as bad:
-            reason = str(bad)
-        expect((walk(data) == "14\n") == bool(reason), "walk and bin/ differ on", data[:12], "of", str(len(data)), reason)
+        refused(data)
     show("-", stdin=paper[:-1]).expect(3, "it has 567 bytes, and with k = 1 and 4 words it would have 568", out=b"")

@@ -46,14 +46,15 @@ def refusals():
     full = run("-", stdin=b"k 16\nprogram\n" + b"saddv d0, p0, z1.b\n" * 256)
     full.expect(3, "word 254, 04002020, is refused with 9 FULL", "holds 254 entries at k = 16")
     expect(full.out.count(b"\n") == 255 and full.out.endswith(b"\n254 9 04002020\n"), "the walk at k = 16 ends otherwise")
-    whole = run("-", stdin=b"k 15\nprogram\n" + b"saddv d0, p0, z1.b\n" * 256).expect(0)
-    expect(whole.out.count(b"\n") == 256, "the walk at k = 15 has not 256 lines")
+    whole = run("-", stdin=b"k 8\nprogram\n" + b"saddv d0, p0, z1.b\n" * 256).expect(0)
+    expect(whole.out.count(b"\n") == 256, "the walk at k = 8 has not 256 lines")
     head = lambda version, k, count: b"LNW" + struct.pack("<HBH", version, k, count)  # noqa: E731
     for data, reason in (
         (b"LNW", "the file has 3 bytes"),
         (b"LNW\n", "the file has 4 bytes"),
         (head(2, 1, 0) + bytes(544), "the version is 2"),
         (head(1, 0, 0), "the length k is 0"),
+        (head(1, 3, 0) + bytes(544 * 3), "the length k is 3, not 1, 2, 4, 8 or 16"),
         (head(1, 17, 0), "the length k is 17"),
         (head(1, 1, 257) + bytes(544 + 4 * 257), "257 words"),
         (head(1, 1, 0) + bytes(543), "551 bytes, and with k = 1 and 0 words it would have 552"),
