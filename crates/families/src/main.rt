@@ -24,7 +24,7 @@ fn show_filled(k: usize, z: &mut [u8], p: &mut [u8], program: &[u8]) {
 // Steps with a fresh journal.
 fn fresh_step(k: usize, z: &mut [u8], p: &[u8], program: &[u8], journal: &mut [u8]) -> u8 {
     journal::fresh(k, journal);
-    journal::step(k, z, p, program, journal)
+    steps::step(k, z, p, program, journal)
 }
 
 // Shows the step of a program's first word at a length.

@@ -1,13 +1,10 @@
-// The step-back journal: a fresh one, a step that appends an entry, back, which takes the last entry off again, and its position.
+// The step-back journal: a fresh one, its position, and whether a step or a step back is refused.
 ghost use mathlib.Core.Path.{_≡_};
 ghost use Rattle.registers.specs.State.{state};
-ghost use Rattle.journal.specs.Calls.{startRefused, backRefused, positionRefused, positionAnswer, Freshened, Stepped, Backed, Performed, CarriedOut};
-ghost use Rattle.journal.specs.Needs.{Ready, CarryOut};
+ghost use Rattle.journal.specs.Calls.{startRefused, backRefused, positionRefused, positionAnswer, Freshened};
 use machine::Answer;
 use machine::Length;
 use machine::refusal;
-use words::Decoded;
-use words::Fields;
 
 // Writes a fresh journal; or LENGTH or ROOM, and the journal as it stood.
 pub fn fresh(k: usize, journal: &mut [u8]) -> u8
@@ -26,7 +23,7 @@ pub fn fresh(k: usize, journal: &mut [u8]) -> u8
 }
 
 // The refusal of a step back: LENGTH, FILE, ROOM, JOURNAL, EMPTY or DONE.
-fn check_back(k: usize, z: &[u8], p: &[u8], journal: &[u8]) -> u8
+pub fn check_back(k: usize, z: &[u8], p: &[u8], journal: &[u8]) -> u8
     ensures { λ r. ⌜ r ≡ backRefused k (state (now (z .entry)) (now (p .entry))) (now (journal .entry)) ⌝ }
 {
     let files = machine::check_files(k, z, p);
@@ -43,20 +40,8 @@ fn check_back(k: usize, z: &[u8], p: &[u8], journal: &[u8]) -> u8
     refusal::DONE
 }
 
-// Takes the last step back; or a refusal, and all as it stood.
-pub fn back(k: usize, z: &mut [u8], p: &[u8], journal: &mut [u8]) -> u8
-    ensures { λ r. ⌜ Backed k (state (now (z .entry)) (now (p .entry))) (now (journal .entry)) r (state (now (z .exit)) (now (p .entry))) (now (journal .exit)) ⌝ }
-{
-    let number = check_back(k, z, p, journal);
-    if number != refusal::DONE {
-        return number;
-    }
-    entries::take_back(k, z, journal);
-    refusal::DONE
-}
-
 // The refusal of a step before its word is read: LENGTH, FILE, PROGRAM, ROOM, JOURNAL, END or DONE.
-fn check_step(k: usize, z: &[u8], p: &[u8], program: &[u8], journal: &[u8]) -> u8
+pub fn check_step(k: usize, z: &[u8], p: &[u8], program: &[u8], journal: &[u8]) -> u8
     ensures { λ r. ⌜ r ≡ startRefused k (state (now (z .entry)) (now (p .entry))) (now (program .entry)) (now (journal .entry)) ⌝ }
 {
     let files = machine::check_files(k, z, p);
@@ -75,45 +60,6 @@ fn check_step(k: usize, z: &[u8], p: &[u8], program: &[u8], journal: &[u8]) -> u
         return refusal::END;
     }
     refusal::DONE
-}
-
-// Appends a word's entry, and executes the word.
-fn carry_out(k: usize, z: &mut [u8], p: &[u8], journal: &mut [u8], f: Fields)
-    requires { ⌜ CarryOut f k (state (now z) (now p)) (now journal) ⌝ }
-    ensures { λ _. ⌜ CarriedOut f k (state (now (z .entry)) (now (p .entry))) (now (journal .entry)) (now (z .exit)) (now (journal .exit)) ⌝ }
-{
-    entries::append(k, z, journal, f.d);
-    executes::execute(f, k, z, p);
-}
-
-// Executes the word at the position and appends its entry; or FULL, and all as it stood.
-fn perform(k: usize, z: &mut [u8], p: &[u8], journal: &mut [u8], f: Fields) -> u8
-    requires { ⌜ Ready f k (state (now z) (now p)) (now journal) ⌝ }
-    ensures { λ r. ⌜ Performed f k (state (now (z .entry)) (now (p .entry))) (now (journal .entry)) r (state (now (z .exit)) (now (p .entry))) (now (journal .exit)) ⌝ }
-{
-    if entries::capacity(k, journal.len()) <= entries::held_of(journal) {
-        return refusal::FULL;
-    }
-    carry_out(k, z, p, journal, f);
-    refusal::DONE
-}
-
-// Executes the word at the position, appends its entry and raises the count; or a refusal, and all as it stood.
-pub fn step(k: usize, z: &mut [u8], p: &[u8], program: &[u8], journal: &mut [u8]) -> u8
-    ensures { λ r. ⌜ Stepped k (state (now (z .entry)) (now (p .entry))) (now (program .entry)) (now (journal .entry)) r
-        (state (now (z .exit)) (now (p .entry)))
-        (now (journal .exit)) ⌝ }
-{
-    let start = check_step(k, z, p, program, journal);
-    if start != refusal::DONE {
-        return start;
-    }
-    let decoded = words::decode(programs::word_at(program, entries::position_of(journal)));
-    match decoded {
-        Decoded::Unknown => refusal::UNKNOWN,
-        Decoded::Undefined => refusal::UNDEFINED,
-        Decoded::Word(f) => perform(k, z, p, journal, f),
-    }
 }
 
 // The refusal of a position: LENGTH, ROOM, JOURNAL or DONE.

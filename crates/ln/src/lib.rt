@@ -216,7 +216,7 @@ pub extern "C" fn ln_step(
     ensures { λ r. ⌜ Stepped k (state (now (z .entry)) (now (p .entry))) (now (program .entry)) (now (journal .entry)) r
         (state (now (z .exit)) (now (p .entry))) (now (journal .exit)) ⌝ }
 {
-    journal::step(k, z, p, program, journal) as u64
+    steps::step(k, z, p, program, journal) as u64
 }
 
 // Takes the last step back, or LENGTH, FILE, ROOM, JOURNAL or EMPTY.
@@ -224,7 +224,7 @@ pub extern "C" fn ln_step(
 pub extern "C" fn ln_back(k: usize, z: &mut [u8], p: &[u8], journal: &mut [u8]) -> u64
     ensures { λ r. ⌜ Backed k (state (now (z .entry)) (now (p .entry))) (now (journal .entry)) r (state (now (z .exit)) (now (p .entry))) (now (journal .exit)) ⌝ }
 {
-    journal::back(k, z, p, journal) as u64
+    steps::back(k, z, p, journal) as u64
 }
 
 // A journal's position, or LENGTH, ROOM or JOURNAL.

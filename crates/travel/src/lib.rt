@@ -21,9 +21,9 @@ fn go(k: usize, z: &mut [u8], p: &[u8], program: &[u8], journal: &mut [u8], dire
         (now (journal .exit)) ⌝ }
 {
     if direction == BACK {
-        return journal::back(k, z, p, journal);
+        return steps::back(k, z, p, journal);
     }
-    journal::step(k, z, p, program, journal)
+    steps::step(k, z, p, program, journal)
 }
 
 // Counts a step that was accepted.

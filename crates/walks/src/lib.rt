@@ -45,7 +45,7 @@ fn step_line(
         (now (journal .exit))
         (now (out .exit)) ⌝ }
 {
-    let number = journal::step(k, z, p, program, journal);
+    let number = steps::step(k, z, p, program, journal);
     let written = lines::write_line(&mut out[at..], k, z, p, program, position, number as u64);
     Turn {
         number,

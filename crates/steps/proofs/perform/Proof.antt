@@ -14,10 +14,10 @@ use Rattle.registers.specs.State.{State, state}
 use Rattle.words.specs.declared.Fields.{Fields}
 use Rattle.meaning.specs.Execute.{executed}
 use Rattle.entries.specs.Layout.{capacity, heldOf, pushed}
 use Rattle.journal.specs.Calls.{entryFor, Performed}
 use Rattle.journal.proofs.Accepted.{can-append}
-use Rattle.journal.proofs.perform.Statement.{statement}
-use Rattle.journal.proofs.perform.Tie as tie
+use Rattle.steps.proofs.perform.Statement.{statement}
+use Rattle.steps.proofs.perform.Tie as tie
 
 -- no further entry fits; and one does
 full : (f : Fields) (k : ℕ) (s : State) (journal : List ℕ) → capacity k (length journal) ≤ heldOf journal → Performed f k s journal FULL s journal

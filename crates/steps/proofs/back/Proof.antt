@@ -4,10 +4,10 @@ use borrow.Author.Needs.{needs}
 use mathlib.Core.Path.{_≡_, sym, _∙_}
 use denote.Ref.{now}
 use Rattle.registers.specs.State.{State, state}
 use Rattle.journal.specs.Calls.{backRefused}
 use Rattle.journal.proofs.Accepted.{back-accepted, back-stood, back-taken, can-take-back}
-use Rattle.journal.proofs.back.Statement.{statement}
-use Rattle.journal.proofs.back.Tie as tie
+use Rattle.steps.proofs.back.Statement.{statement}
+use Rattle.steps.proofs.back.Tie as tie
 
 -- where the function started, and where the last entry is taken off
 abbrev start : tie.After-check-back → tie.Start

@@ -9,10 +9,10 @@ use Rattle.registers.specs.State.{State, state}
 use Rattle.programs.specs.Word.{wordAt}
 use Rattle.words.specs.Decode.{decoded}
 use Rattle.words.specs.declared.Decoded.the-variants.{Unknown, Undefined}
 use Rattle.journal.specs.Calls.{wordNow, startRefused}
 use Rattle.journal.proofs.Accepted.{Started, started, start-refused, word-decides, word-performed, step-stood, executable}
-use Rattle.journal.proofs.step.Statement.{statement}
-use Rattle.journal.proofs.step.Tie as tie
+use Rattle.steps.proofs.step.Statement.{statement}
+use Rattle.steps.proofs.step.Tie as tie
 
 abbrev start : tie.After-check-step → tie.Start
 start c = c .before .before .before .before .before .before .before

@@ -1,0 +1,58 @@
+// A step, which appends an entry and executes its word, and back, which takes the last entry off again.
+ghost use Rattle.registers.specs.State.{state};
+ghost use Rattle.journal.specs.Calls.{Stepped, Backed, Performed, CarriedOut};
+ghost use Rattle.journal.specs.Needs.{Ready, CarryOut};
+use machine::refusal;
+use words::Decoded;
+use words::Fields;
+
+// Appends a word's entry, and executes the word.
+fn carry_out(k: usize, z: &mut [u8], p: &[u8], journal: &mut [u8], f: Fields)
+    requires { ⌜ CarryOut f k (state (now z) (now p)) (now journal) ⌝ }
+    ensures { λ _. ⌜ CarriedOut f k (state (now (z .entry)) (now (p .entry))) (now (journal .entry)) (now (z .exit)) (now (journal .exit)) ⌝ }
+{
+    entries::append(k, z, journal, f.d);
+    executes::execute(f, k, z, p);
+}
+
+// Executes the word at the position and appends its entry; or FULL, and all as it stood.
+fn perform(k: usize, z: &mut [u8], p: &[u8], journal: &mut [u8], f: Fields) -> u8
+    requires { ⌜ Ready f k (state (now z) (now p)) (now journal) ⌝ }
+    ensures { λ r. ⌜ Performed f k (state (now (z .entry)) (now (p .entry))) (now (journal .entry)) r (state (now (z .exit)) (now (p .entry))) (now (journal .exit)) ⌝ }
+{
+    if entries::capacity(k, journal.len()) <= entries::held_of(journal) {
+        return refusal::FULL;
+    }
+    carry_out(k, z, p, journal, f);
+    refusal::DONE
+}
+
+// Executes the word at the position, appends its entry and raises the count; or a refusal, and all as it stood.
+pub fn step(k: usize, z: &mut [u8], p: &[u8], program: &[u8], journal: &mut [u8]) -> u8
+    ensures { λ r. ⌜ Stepped k (state (now (z .entry)) (now (p .entry))) (now (program .entry)) (now (journal .entry)) r
+        (state (now (z .exit)) (now (p .entry)))
+        (now (journal .exit)) ⌝ }
+{
+    let start = journal::check_step(k, z, p, program, journal);
+    if start != refusal::DONE {
+        return start;
+    }
+    let decoded = words::decode(programs::word_at(program, entries::position_of(journal)));
+    match decoded {
+        Decoded::Unknown => refusal::UNKNOWN,
+        Decoded::Undefined => refusal::UNDEFINED,
+        Decoded::Word(f) => perform(k, z, p, journal, f),
+    }
+}
+
+// Takes the last step back; or a refusal, and all as it stood.
+pub fn back(k: usize, z: &mut [u8], p: &[u8], journal: &mut [u8]) -> u8
+    ensures { λ r. ⌜ Backed k (state (now (z .entry)) (now (p .entry))) (now (journal .entry)) r (state (now (z .exit)) (now (p .entry))) (now (journal .exit)) ⌝ }
+{
+    let number = journal::check_back(k, z, p, journal);
+    if number != refusal::DONE {
+        return number;
+    }
+    entries::take_back(k, z, journal);
+    refusal::DONE
+}
