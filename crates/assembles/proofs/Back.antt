@@ -30,7 +30,8 @@ use Rattle.operands.specs.declared.Suffix.the-variants.{Lane}
 use Rattle.operands.specs.declared.Operand.{Operand}
 use Rattle.operands.specs.Operands.{letters, letterOf, lanesOf, suffixText, destinationOperand, governingOperand, sourceOperand}
 use Rattle.names.specs.Text.{keyOf, nameOf, keyFrom, rowNamed, listed, operandsNamed, textOf}
-use Rattle.assembles.specs.Reading.{pastSpace, numberIn, fromEnd, placeOf, sizeIn, firstIn, secondIn, thirdIn, fields, readAs, fieldsFrom}
+use Rattle.scans.specs.Scanned.{pastSpace, numberIn, fromEnd, placeOf, sizeIn}
+use Rattle.assembles.specs.Reading.{firstIn, secondIn, thirdIn, fields, readAs, fieldsFrom}
 use Rattle.assembles.proofs.Free.{free-letter, past-operand, past-name}
 use Rattle.assembles.proofs.Numbers.{listed-number}
 use Rattle.assembles.proofs.Ends.{end-append, lastOf, listed-end, lane-end, lanes-end, place-letter, count-end, count-q}

@@ -17,7 +17,7 @@ use Rattle.operands.specs.declared.Suffix.the-variants.{Lane, Lanes}
 use Rattle.operands.specs.declared.Operand.{Operand}
 use Rattle.operands.specs.Operands.{letters, letterOf, lanesOf, suffixText, operandText}
 use Rattle.names.specs.Text.{listed}
-use Rattle.assembles.specs.Reading.{fromEnd, placeOf, fullDigits}
+use Rattle.scans.specs.Scanned.{fromEnd, placeOf, fullDigits}
 
 -- the end of two lists is that of the second
 pub end-append : (k l : List ℕ) (i : ℕ) → i ≤ length l → fromEnd (k ++ l) i ≡ fromEnd l i

@@ -17,7 +17,7 @@ use Rattle.operands.specs.declared.Suffix.the-variants.{Plain, Lane, Lanes, Mer
 use Rattle.operands.specs.declared.Operand.{Operand}
 use Rattle.operands.specs.Operands.{letterOf, suffixText, operandText}
 use Rattle.names.specs.Text.{keyOf, nameOf, listed}
-use Rattle.assembles.specs.Reading.{pastSpace}
+use Rattle.scans.specs.Scanned.{pastSpace}
 
 -- bytes with no space among them
 abbrev pub free : List ℕ → Bool

@@ -1,4 +1,3 @@
-pub mod Scan
 pub mod Free
 pub mod Numbers
 pub mod Ends

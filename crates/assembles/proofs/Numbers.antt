@@ -19,7 +19,7 @@ use Rattle.operands.specs.declared.Suffix.the-variants.{Plain, Lane, Lanes, Mer
 use Rattle.operands.specs.declared.Operand.{Operand}
 use Rattle.operands.specs.Operands.{suffixText}
 use Rattle.names.specs.Text.{following, listed}
-use Rattle.assembles.specs.Reading.{worth, isDigit, numberIn}
+use Rattle.scans.specs.Scanned.{worth, isDigit, numberIn}
 
 -- a digit is one, and is worth its value
 digitGood : ℕ → Bool

@@ -9,8 +9,9 @@ use Rattle.rows.specs.Table.{familyOf}
 use Rattle.rows.specs.declared.Family.{Family}
 use Rattle.operands.specs.Operands.{letters}
 use Rattle.names.specs.Text.{rowNamed}
-use Rattle.assembles.specs.Reading.{pastSpace, numberIn, fromEnd, sizeIn, qIn, byFamily, fieldsFrom}
-use Rattle.assembles.proofs.Scan.{place-most}
+use Rattle.scans.specs.Scanned.{pastSpace, numberIn, fromEnd, sizeIn, qIn}
+use Rattle.scans.proofs.Scan.{place-most}
+use Rattle.assembles.specs.Reading.{byFamily, fieldsFrom}
 use Rattle.assembles.proofs.read_fields.Statement.{statement}
 use Rattle.assembles.proofs.read_fields.Tie as tie
 

@@ -2,10 +2,10 @@
 -- Assumes nothing.
 use mathlib.Core.Path.{refl, sym, _∙_}
 use mathlib.Core.Bool.{true, false}
-use Rattle.assembles.proofs.Scan.{number-is}
+use Rattle.scans.proofs.Scan.{number-is}
 use borrow.Author.Needs.{needs}
-use Rattle.assembles.proofs.number_at.Statement.{statement}
-use Rattle.assembles.proofs.number_at.Tie as tie
+use Rattle.scans.proofs.number_at.Statement.{statement}
+use Rattle.scans.proofs.number_at.Tie as tie
 
 -- where the function starts, and where the first byte is read
 abbrev start : tie.After-byte-at → tie.Start

@@ -2,10 +2,10 @@
 -- Assumes nothing.
 use mathlib.Core.Path.{sym, _∙_}
 use borrow.Author.Tests.{le-leb, lt-leb}
-use Rattle.assembles.specs.Reading.{fromEnd}
+use Rattle.scans.specs.Scanned.{fromEnd}
 use borrow.Author.Needs.{needs}
-use Rattle.assembles.proofs.byte_from_end.Statement.{statement}
-use Rattle.assembles.proofs.byte_from_end.Tie as tie
+use Rattle.scans.proofs.byte_from_end.Statement.{statement}
+use Rattle.scans.proofs.byte_from_end.Tie as tie
 
 returns : tie.Need-returns
 unfolding fromEnd

@@ -2,8 +2,8 @@
 -- Assumes nothing.
 use mathlib.Core.Path.{sym}
 use borrow.Author.Tests.{le-leb, lt-leb}
-use Rattle.assembles.proofs.is_digit.Statement.{statement}
-use Rattle.assembles.proofs.is_digit.Tie as tie
+use Rattle.scans.proofs.is_digit.Statement.{statement}
+use Rattle.scans.proofs.is_digit.Tie as tie
 
 returns : tie.Need-returns
 returns c = sym (rw (lt-leb _ _ (c .if1 .taken)))

@@ -3,8 +3,8 @@
 use mathlib.Core.Path.{sym, _∙_}
 use borrow.Author.Tests.{eq-eqb, ne-eqb}
 use borrow.Author.Needs.{needs}
-use Rattle.assembles.proofs.q_in.Statement.{statement}
-use Rattle.assembles.proofs.q_in.Tie as tie
+use Rattle.scans.proofs.q_in.Statement.{statement}
+use Rattle.scans.proofs.q_in.Tie as tie
 
 returns : tie.Need-returns
 returns c = sym (rw (eq-eqb _ _ (sym (c .before .before .byte-from-end .ensures) ∙ c .if1 .taken ∙ c .before .full-digit .ensures)))

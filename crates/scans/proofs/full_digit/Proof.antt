@@ -2,10 +2,10 @@
 -- Assumes nothing.
 use mathlib.Core.Path.{sym}
 use lib.ListN.{List·getD-eq-default}
-use Rattle.assembles.specs.Reading.{fullDigits}
+use Rattle.scans.specs.Scanned.{fullDigits}
 use borrow.Author.Needs.{needs}
-use Rattle.assembles.proofs.full_digit.Statement.{statement}
-use Rattle.assembles.proofs.full_digit.Tie as tie
+use Rattle.scans.proofs.full_digit.Statement.{statement}
+use Rattle.scans.proofs.full_digit.Tie as tie
 
 returns-2 : tie.Need-returns-2
 returns-2 c = sym (List·getD-eq-default fullDigits 0 (c .if1 .left))

@@ -5,10 +5,10 @@ use mathlib.Core.Path.{_≡_, refl, sym, _∙_}
 use Prim.Native.Nat.{_≤_, _-_}
 use native.Mathlib.Omega.{arith}
 use lib.ListN.{length, drop}
-use Rattle.assembles.specs.Reading.{pastSpace}
-use Rattle.assembles.proofs.Scan.{past-here, past-next, past-end}
-use Rattle.assembles.proofs.past_space.Statement.{statement}
-use Rattle.assembles.proofs.past_space.Tie as tie
+use Rattle.scans.specs.Scanned.{pastSpace}
+use Rattle.scans.proofs.Scan.{past-here, past-next, past-end}
+use Rattle.scans.proofs.past_space.Statement.{statement}
+use Rattle.scans.proofs.past_space.Tie as tie
 
 abbrev Inv-loop : tie.InvT-loop
 Inv-loop text from at₀ at = (at ≤ length text) × (pastSpace (drop at text) ≡ pastSpace (drop from text))

@@ -10,7 +10,7 @@ use lib.Dec.{eqb}
 use lib.ListN.{length, getD, drop, drop-of-length-le}
 use lib.Seq.{drop-cons, getD-drop}
 use borrow.Author.Tests.{eq-eqb, ne-eqb}
-use Rattle.assembles.specs.Reading.{pastSpace, worth, isDigit, numberIn, placeOf}
+use Rattle.scans.specs.Scanned.{pastSpace, worth, isDigit, numberIn, placeOf}
 
 -- what follows the first space from a place on, at a space, at another byte, and at the end
 past-step : (l : List ℕ) (at : ℕ) → at < length l

@@ -2,8 +2,8 @@
 -- Assumes nothing.
 use mathlib.Core.Path.{sym}
 use borrow.Author.Tests.{ne-eqb}
-use Rattle.assembles.proofs.size_of.Statement.{statement}
-use Rattle.assembles.proofs.size_of.Tie as tie
+use Rattle.scans.proofs.size_of.Statement.{statement}
+use Rattle.scans.proofs.size_of.Tie as tie
 
 returns : tie.Need-returns
 returns c = sym (rw (c .match .keys1))

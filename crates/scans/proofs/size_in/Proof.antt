@@ -3,10 +3,10 @@
 use mathlib.Core.Path.{_∙_, ap}
 use Prim.Native.Nat.{ℕ}
 use Rattle.operands.specs.Operands.{letters}
-use Rattle.assembles.specs.Reading.{placeOf}
+use Rattle.scans.specs.Scanned.{placeOf}
 use borrow.Author.Needs.{needs}
-use Rattle.assembles.proofs.size_in.Statement.{statement}
-use Rattle.assembles.proofs.size_in.Tie as tie
+use Rattle.scans.proofs.size_in.Statement.{statement}
+use Rattle.scans.proofs.size_in.Tie as tie
 
 returns : tie.Need-returns
 returns c = c .size-of .ensures ∙ ap (λ (b : ℕ). placeOf b letters) (c .before .byte-from-end .ensures)
