@@ -1,19 +1,17 @@
-// The journal's bytes: mark, version, k and count, then entries of a register's number and its old bytes; and an entry written, given up and
-// put back into its register.
+// The journal's bytes: mark, version, k and count, then entries of a register's number and its old bytes; what is read of them, and whether a
+// journal is well formed.
 ghost use mathlib.Core.Path.{_≡_};
 ghost use Prim.Native.Nat.{_≤_};
-ghost use lib.ListN.{length, take, replicate};
+ghost use lib.ListN.{length, take};
 ghost use Rattle.parts.specs.Part.{sameBytes};
 ghost use Rattle.machine.specs.Size.{mostLength, mostWords};
 ghost use Rattle.machine.specs.Refusal.{refused};
-ghost use Rattle.registers.specs.Register.{vectorOf, withVector};
 ghost use Rattle.entries.specs.Layout.{heading as headingOf, version, layoutOf, headerBytes, entryBytes, capacity as capacityOf};
-ghost use Rattle.entries.specs.Layout.{countAt, withCount, slotAt, heldOf, positionOf, freshJournal, isJournal, areNamed, firstEntries, entryIn, pushed};
+ghost use Rattle.entries.specs.Layout.{countAt, slotAt, heldOf, positionOf, isJournal, areNamed, firstEntries};
 ghost use Rattle.entries.specs.Tests.{roomTests, journalTests};
-ghost use Rattle.entries.specs.Needs.{SameLayout, Headed, Fits, Restorable, Append, TakeBack, TakenBack};
+ghost use Rattle.entries.specs.Needs.{SameLayout, Headed, Fits};
 use machine::Length;
 use machine::refusal;
-use registers::Kind;
 
 // What a version of the journal has: the bytes before its entries, and the greatest number of an entry.
 pub struct Layout {
@@ -58,7 +56,7 @@ pub fn check_room(journal: &[u8]) -> u8
 }
 
 // The bytes of an entry.
-fn entry_bytes(k: usize) -> usize
+pub fn entry_bytes(k: usize) -> usize
     requires { ⌜ k ≤ mostLength ⌝ }
     ensures { λ r. ⌜ r ≡ entryBytes k ⌝ }
 {
@@ -75,7 +73,7 @@ pub fn capacity(k: usize, bytes: usize) -> usize
 }
 
 // Where a slot starts.
-fn slot_at(k: usize, slot: usize) -> usize
+pub fn slot_at(k: usize, slot: usize) -> usize
     requires { ⌜ (k ≤ mostLength) × (slot ≤ mostWords) ⌝ }
     ensures { λ r. ⌜ r ≡ slotAt k slot ⌝ }
 {
@@ -99,16 +97,8 @@ pub fn position_of(journal: &[u8]) -> usize
     held_of(journal)
 }
 
-// Writes the count.
-fn put_count(journal: &mut [u8], n: usize)
-    requires { ⌜ headerBytes ≤ length (now journal) ⌝ }
-    ensures { λ _. ⌜ now (journal .exit) ≡ withCount n (now (journal .entry)) ⌝ }
-{
-    parts::put_number(journal, COUNT_AT, COUNT, n as u64);
-}
-
 // What stands before the count: the mark, the version and k.
-fn heading(k: usize) -> [u8; 6]
+pub fn heading(k: usize) -> [u8; 6]
     requires { ⌜ k ≤ mostLength ⌝ }
     ensures { λ r. ⌜ r ≡ headingOf version k ⌝ }
 {
@@ -175,57 +165,4 @@ pub fn check_journal(k: usize, journal: &[u8]) -> u8
     } else {
         refusal::JOURNAL
     }
-}
-
-// Sets a journal's bytes to zeros, those after its header too.
-fn clear(journal: &mut [u8])
-    requires { ⌜ headerBytes ≤ length (now journal) ⌝ }
-    ensures { λ _. ⌜ now (journal .exit) ≡ replicate (length (now (journal .entry))) 0 ⌝ }
-{
-    parts::clear(journal);
-}
-
-// Writes a fresh journal's bytes.
-pub fn put_fresh(k: usize, journal: &mut [u8])
-    requires { ⌜ Headed k (now journal) ⌝ }
-    ensures { λ _. ⌜ now (journal .exit) ≡ freshJournal k (length (now (journal .entry))) ⌝ }
-{
-    clear(journal);
-    let heading = heading(k);
-    bytes::copy(&heading, journal);
-}
-
-// Writes the old bytes of entry i into the register that it names.
-fn restore(k: usize, z: &mut [u8], journal: &[u8], i: usize)
-    requires { ⌜ Restorable k i (now z) (now journal) ⌝ }
-    ensures { λ _. ⌜ now (z .exit) ≡ withVector k (entryIn k (now (journal .entry)) i .number) (entryIn k (now (journal .entry)) i .old) (now (z .entry)) ⌝ }
-{
-    let length = Length { k };
-    let at = slot_at(k, i);
-    let old = at + 1;
-    let end = old + length.vector_bytes();
-    registers::write_register(k, Kind::Vector, z, journal[at] as usize, &journal[old..end]);
-}
-
-// Appends an entry with a register's bytes, and raises the count.
-pub fn append(k: usize, z: &[u8], journal: &mut [u8], d: usize)
-    requires { ⌜ Append k d (now z) (now journal) ⌝ }
-    ensures { λ _. ⌜ now (journal .exit) ≡ pushed k (record { number = d; old = vectorOf k d (now (z .entry)) }) (now (journal .entry)) ⌝ }
-{
-    let i = held_of(journal);
-    let at = slot_at(k, i);
-    journal[at] = d as u8;
-    parts::overwrite(journal, at + 1, registers::register(k, Kind::Vector, z, d));
-    put_count(journal, i + 1);
-}
-
-// Takes the last entry off: its bytes go back into their register, the entry is set to zeros and the count lowered.
-pub fn take_back(k: usize, z: &mut [u8], journal: &mut [u8])
-    requires { ⌜ TakeBack k (now z) (now journal) ⌝ }
-    ensures { λ _. ⌜ TakenBack k (now (z .entry)) (now (journal .entry)) (now (z .exit)) (now (journal .exit)) ⌝ }
-{
-    let i = held_of(journal) - 1;
-    restore(k, z, journal, i);
-    parts::clear_part(journal, slot_at(k, i), entry_bytes(k));
-    put_count(journal, i);
 }

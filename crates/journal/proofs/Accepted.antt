@@ -29,7 +29,7 @@ use Rattle.entries.specs.Layout.{capacity, heldOf, positionOf, lastEntry, pushe
 use Rattle.entries.specs.Tests.{journalTests}
 use Rattle.journal.specs.Calls.{fullTests, emptyTests, startTests, wordNow, fieldsNow, startRefused, stepRefused, stepState, stepJournal}
 use Rattle.journal.specs.Calls.{entryFor, restored, backRefused, backState, backJournal, positionRefused, Stepped, Backed, Performed}
-use Rattle.entries.specs.Needs.{Append, TakeBack, TakenBack}
+use Rattle.appends.specs.Needs.{Append, TakeBack, TakenBack}
 use Rattle.journal.specs.Needs.{Ready}
 use Rattle.entries.proofs.Places.{slot-inside, named-all}
 use Rattle.entries.proofs.Formed.{Formed, length-legal, journal-checked, formed-room, formed-journal}

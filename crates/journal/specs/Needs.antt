@@ -7,7 +7,7 @@ use Rattle.registers.specs.State.{State}
 use Rattle.words.specs.declared.Fields.{Fields}
 use Rattle.meaning.specs.Needs.{Executable}
 use Rattle.entries.specs.Layout.{headerBytes, heldOf}
-use Rattle.entries.specs.Needs.{Append}
+use Rattle.appends.specs.Needs.{Append}
 
 -- a word that executes, and a journal with its header and the position of a word
 pub record Ready (f : Fields) (k : ℕ) (s : State) (journal : List ℕ) : Type 0 where

@@ -18,7 +18,7 @@ pub fn fresh(k: usize, journal: &mut [u8]) -> u8
     if room != refusal::DONE {
         return room;
     }
-    entries::put_fresh(k, journal);
+    appends::put_fresh(k, journal);
     refusal::DONE
 }
 

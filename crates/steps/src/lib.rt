@@ -11,7 +11,7 @@ fn carry_out(k: usize, z: &mut [u8], p: &[u8], journal: &mut [u8], f: Fields)
     requires { ⌜ CarryOut f k (state (now z) (now p)) (now journal) ⌝ }
     ensures { λ _. ⌜ CarriedOut f k (state (now (z .entry)) (now (p .entry))) (now (journal .entry)) (now (z .exit)) (now (journal .exit)) ⌝ }
 {
-    entries::append(k, z, journal, f.d);
+    appends::append(k, z, journal, f.d);
     executes::execute(f, k, z, p);
 }
 
@@ -53,6 +53,6 @@ pub fn back(k: usize, z: &mut [u8], p: &[u8], journal: &mut [u8]) -> u8
     if number != refusal::DONE {
         return number;
     }
-    entries::take_back(k, z, journal);
+    appends::take_back(k, z, journal);
     refusal::DONE
 }

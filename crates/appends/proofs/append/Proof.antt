@@ -13,9 +13,9 @@ use Rattle.machine.specs.Size.{vectorBytes}
 use Rattle.registers.specs.Register.{vectorOf}
 use Rattle.registers.specs.declared.Kind.the-variants.{Vector}
 use Rattle.registers.proofs.Places.{length-register}
 use Rattle.entries.specs.Layout.{slotAt, heldOf, withCount, pushed}
-use Rattle.entries.proofs.append.Statement.{statement}
-use Rattle.entries.proofs.append.Tie as tie
+use Rattle.appends.proofs.append.Statement.{statement}
+use Rattle.appends.proofs.append.Tie as tie
 
 -- the number written, then the bytes after it, and the count
 appended : (k d i at : ℕ) (z old journal entries after : List ℕ) → i ≡ heldOf journal → at ≡ slotAt k (heldOf journal) → at < length journal → length old ≡ vectorBytes k

@@ -12,10 +12,10 @@ use Rattle.parts.specs.Part.{part}
 use Rattle.parts.proofs.Parts.{length-part}
 use Rattle.machine.specs.Size.{vectorBytes}
 use Rattle.registers.specs.Register.{padded, withVector}
 use Rattle.entries.specs.Layout.{slotAt, entryIn}
-use Rattle.entries.specs.Needs.{EntryInside}
-use Rattle.entries.proofs.restore.Statement.{statement}
-use Rattle.entries.proofs.restore.Tie as tie
+use Rattle.appends.specs.Needs.{EntryInside}
+use Rattle.appends.proofs.restore.Statement.{statement}
+use Rattle.appends.proofs.restore.Tie as tie
 
 module _ (k i at bytes : ℕ) (journal : List ℕ) (place : at ≡ slotAt k i) (width : bytes ≡ vectorBytes k) (entry : EntryInside k i journal) where
   -- the bytes that are lent are the entry's old ones, as many as a register's

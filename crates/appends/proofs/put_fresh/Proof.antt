@@ -9,9 +9,9 @@ use denote.Ref.{now}
 use lib.ListN.{length, take, drop, replicate}
 use Rattle.parts.specs.Number.{bytesOf}
 use Rattle.parts.proofs.Numbers.{drop-replicate}
 use Rattle.entries.specs.Layout.{countAt, countBytes, version, heading, headerBytes, journalOf, freshJournal}
-use Rattle.entries.proofs.put_fresh.Statement.{statement}
-use Rattle.entries.proofs.put_fresh.Tie as tie
+use Rattle.appends.proofs.put_fresh.Statement.{statement}
+use Rattle.appends.proofs.put_fresh.Tie as tie
 
 -- the count 0 and the zeros after it
 zeros : (n : ℕ) → headerBytes ≤ n → replicate (n - countAt) 0 ≡ bytesOf countBytes 0 ++ replicate (n - headerBytes) 0

@@ -9,10 +9,10 @@ use denote.Ref.{now}
 use lib.ListN.{replicate}
 use Rattle.parts.specs.Part.{withPart}
 use Rattle.registers.specs.Register.{withVector}
 use Rattle.entries.specs.Layout.{entryBytes, slotAt, heldOf, entryIn, withCount}
-use Rattle.entries.specs.Needs.{TakenBack}
-use Rattle.entries.proofs.take_back.Statement.{statement}
-use Rattle.entries.proofs.take_back.Tie as tie
+use Rattle.appends.specs.Needs.{TakenBack}
+use Rattle.appends.proofs.take_back.Statement.{statement}
+use Rattle.appends.proofs.take_back.Tie as tie
 
 -- the bytes put back, the entry cleared and the count lowered
 taken-back : (k held at bytes : ℕ) (z journal z-after cleared after : List ℕ) → held ≡ heldOf journal → at ≡ slotAt k (held - 1) → bytes ≡ entryBytes k
