@@ -10,9 +10,3 @@ pub record HalfLanes (w e : ℕ) (operand : List ℕ) : Type 0 where
   pub most : w ≤ 8
   pub halves : w / 2 * 2 ≡ w
   pub inside : e * w + w ≤ length operand
-
--- element e of 1 to 8 bytes lies within a register
-pub record ElementIn (w e : ℕ) (operand : List ℕ) : Type 0 where
-  pub least : 1 ≤ w
-  pub most : w ≤ 8
-  pub inside : e * w + w ≤ length operand

@@ -8,15 +8,7 @@ ghost use Rattle.lanes.specs.Integer.{residue};
 ghost use Rattle.lanes.specs.Sum.{element, total};
 ghost use Rattle.sums.specs.Sums.{Governs};
 ghost use Rattle.meaning.specs.Terms.{elementOf, sumOf, pairwiseTerms, selected, firstTerm, wideningTerms};
-ghost use Rattle.elements.specs.Needs.{ElementIn, HalfLanes};
-
-// The integer that element e of w bytes stands for, at 64 bits.
-fn element_at(operand: &[u8], w: usize, signed: bool, e: usize) -> u64
-    requires { ⌜ ElementIn w e (now operand) ⌝ }
-    ensures { λ r. ⌜ r ≡ residue 64 (element signed w (now (operand .entry)) e) ⌝ }
-{
-    lanes::extend(lanes::lane(operand, w, e), w, signed)
-}
+ghost use Rattle.elements.specs.Needs.{HalfLanes};
 
 // Which half element of a lane is taken: 0 for the bottom, 1 for the top.
 fn selection(top: bool) -> usize
@@ -31,7 +23,7 @@ fn half_at(operand: &[u8], w: usize, signed: bool, top: bool, e: usize) -> u64
     ensures { λ r. ⌜ r ≡ residue 64 (element signed (w / 2) (now (operand .entry)) (selected top e)) ⌝ }
 {
     let i = selection(top);
-    element_at(operand, w / 2, signed, 2 * e + i)
+    lanes::element_at(operand, w / 2, signed, 2 * e + i)
 }
 
 // The sum of both half elements of lane e, at 64 bits.
@@ -63,7 +55,7 @@ fn first_element(n: &[u8], w: usize, parameters: Parameters, e: usize) -> u64
     ensures { λ r. ⌜ r ≡ residue 64 (elementOf (record { operand1 = now (n .entry); operand2 = []; old = [] }) (firstTerm parameters w e)) ⌝ }
 {
     if parameters.wide {
-        element_at(n, w, parameters.signed, e)
+        lanes::element_at(n, w, parameters.signed, e)
     } else {
         half_at(n, w, parameters.signed, parameters.top, e)
     }

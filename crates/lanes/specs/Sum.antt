@@ -1,7 +1,8 @@
 -- Sums of elements. An element is the integer that a lane stands for; an inactive element adds nothing.
-use Prim.Native.Nat.{ℕ, zero, suc, _+_, _%_, _^_}
+use Prim.Native.Nat.{ℕ, zero, suc, _+_, _*_, _%_, _^_, _≤_}
 use mathlib.Core.Bool.{Bool, cond}
 use mathlib.Core.List.{List, [], _∷_}
+use lib.ListN.{length}
 use lib.IntN.{ℤ, pos, _+ℤ_}
 use Rattle.parts.specs.Number.{bitsOf}
 use Rattle.lanes.specs.Lane.{lane, active}
@@ -15,6 +16,12 @@ each f e (suc n) = f e ∷ each f (suc e) n
 -- Int(Elem[operand, e, esize], unsigned): the integer of element e, which has w bytes
 abbrev pub element : Bool → ℕ → List ℕ → ℕ → ℤ
 element signed w operand e = integer signed (bitsOf w) (lane w e operand)
+
+-- element e of 1 to 8 bytes lies within a register
+pub record ElementIn (w e : ℕ) (operand : List ℕ) : Type 0 where
+  pub least : 1 ≤ w
+  pub most : w ≤ 8
+  pub inside : e * w + w ≤ length operand
 
 -- what an element adds: itself if it is active, else nothing
 abbrev pub counted : Bool → ℤ → ℤ

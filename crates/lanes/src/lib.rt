@@ -6,6 +6,7 @@ ghost use Rattle.machine.specs.Size.{sizes};
 ghost use Rattle.lanes.specs.Lane.{lane as laneAt, active, withLane, widthOf, LaneIn, HasBit};
 ghost use Rattle.parts.specs.Number.{bitsOf};
 ghost use Rattle.lanes.specs.Integer.{integer, residue, LaneNumber};
+ghost use Rattle.lanes.specs.Sum.{element, ElementIn};
 
 // The bytes of a lane, for each size.
 pub fn width_of(size: usize) -> usize
@@ -43,6 +44,14 @@ pub fn extend(n: u64, w: usize, signed: bool) -> u64
     }
     let half = 1u64 << (8 * w - 1);
     std::num::wrapping_sub_u64(n ^ half, half)
+}
+
+// The integer that element e of w bytes stands for, at 64 bits.
+pub fn element_at(operand: &[u8], w: usize, signed: bool, e: usize) -> u64
+    requires { ⌜ ElementIn w e (now operand) ⌝ }
+    ensures { λ r. ⌜ r ≡ residue 64 (element signed w (now (operand .entry)) e) ⌝ }
+{
+    extend(lane(operand, w, e), w, signed)
 }
 
 // Writes a number's low bytes into lane e of w bytes.

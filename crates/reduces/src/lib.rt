@@ -10,13 +10,11 @@ ghost use Rattle.machine.specs.Size.{segmentBytes};
 ghost use Rattle.parts.specs.Number.{bytesOf};
 ghost use Rattle.registers.specs.Register.{padded};
 ghost use Rattle.registers.specs.State.{state};
-ghost use Rattle.lanes.specs.Lane.{fromLanes};
 ghost use Rattle.lanes.specs.Integer.{residue};
 ghost use Rattle.lanes.specs.Sum.{each, element, total};
 ghost use Rattle.rows.specs.Table.{formOf};
 ghost use Rattle.rows.specs.declared.Family.the-variants.{Low};
 ghost use Rattle.sums.specs.Sums.{Governs, laneSum};
-ghost use Rattle.sums.specs.Panel.{perSegment, columnSum, GovernedSegments};
 ghost use Rattle.meaning.specs.Terms.{dataBytes};
 ghost use Rattle.meaning.specs.Execute.{writtenFor};
 ghost use Rattle.meaning.specs.Needs.{ExecutableAs};
@@ -40,25 +38,13 @@ fn reduction_low(p: &[u8], n: &[u8], w: usize, signed: bool) -> [u8; 16]
     scalar(8, sums::sum_lanes(n, p, w, signed, n.len() / w))
 }
 
-// The panel's rows of a register added, place by place.
-fn segment_low(p: &[u8], n: &[u8], w: usize) -> [u8; 16]
-    requires { ⌜ GovernedSegments w (now p) (now n) ⌝ }
-    ensures { λ r. ⌜ r ≡ fromLanes w 0 (perSegment w) (columnSum w (now (p .entry)) (now (n .entry))) ⌝ }
-{
-    sums::column_sums(sums::panel_of(n, p, w), w)
-}
-
 // The sum of all lanes of a register's low 8 bytes, or of its low 16 where q is 1, in twice a lane's bytes.
 fn long_low(n: &[u8], w: usize, q: usize, signed: bool) -> [u8; 16]
     requires { ⌜ LongFront w q (now n) ⌝ }
     ensures { λ r. ⌜ r ≡ padded segmentBytes (bytesOf (2 * w) (residue 64 (total (each (element signed w (now (n .entry))) 0 (dataBytes q / w))))) ⌝ }
 {
-    let end = 8 * (1 + q);
-    let every = [255u8; 2];
-    scalar(
-        2 * w,
-        sums::sum_lanes(&n[..end], &every, w, signed, end / w),
-    )
+    let bytes = 8 * (1 + q);
+    scalar(2 * w, sums::sum_every(n, w, signed, bytes / w))
 }
 
 // The low sixteen bytes that a word of such a family leaves in its destination.
@@ -79,7 +65,7 @@ pub fn low_bytes(
     let source = registers::register(k, Kind::Vector, z, f.n);
     match low {
         LowFamily::Reduction => reduction_low(mask, source, w, signed),
-        LowFamily::Segment => segment_low(mask, source, w),
+        LowFamily::Segment => columns::segment_sums(source, mask, w),
         LowFamily::Long => long_low(source, w, f.q, signed),
     }
 }

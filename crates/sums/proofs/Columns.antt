@@ -21,25 +21,6 @@ use Rattle.lanes.proofs.Written.{read-lane, bytes-residue, same-lanes}
 use Rattle.sums.specs.Panel.{perSegment, WholeSegments, panelLane, panelRow, panelFrom, panelOf, columnElement, columnSum, placeSum, rowsSum}
 use Rattle.sums.proofs.Panels.{noRow, panel-row, panel-past}
 
--- the sum of rows that follow others
-place-append : (w e : ℕ) (rows more : List (List ℕ)) → placeSum w e (rows ++ more) ≡ placeSum w e rows + placeSum w e more
-place-append w e [] more = sym (zero-add (placeSum w e more))
-place-append w e (row ∷ rows) more = rw (place-append w e rows more) (sym (add-assoc (lane w e row) (placeSum w e rows) (placeSum w e more)))
-
--- one row more, modulo M
-pub place-next : (w e M s : ℕ) (rows : List (List ℕ)) → s < length rows
-    → placeSum w e (take (s + 1) rows) % M ≡ (placeSum w e (take s rows) % M + lane w e (getD rows s [])) % M
-place-next w e M s rows h =
-    ap (λ (n : ℕ). n % M)
-    (ap (placeSum w e) (ap (λ (n : ℕ). take n rows) (add-one s) ∙ take-suc rows s [] h)
-    ∙ place-append w e (take s rows) (getD rows s [] ∷ [])
-    ∙ ap (λ (n : ℕ). placeSum w e (take s rows) + n) (add-zero (lane w e (getD rows s []))))
-    ∙ sym (mod-add-mod (placeSum w e (take s rows)) M (lane w e (getD rows s [])))
-
--- the low bytes of a sum that was added modulo 2^64
-pub place-bytes : (w e : ℕ) → w ≤ 8 → (rows : List (List ℕ)) → bytesOf w (placeSum w e rows % 2 ^ 64) ≡ bytesOf w (rowsSum w rows e)
-place-bytes w e h rows = sym (bytes-residue w h (pos (placeSum w e rows)))
-
 -- a lane of zeros is zero
 number-zeros : (w n : ℕ) → number (take w (replicate n 0)) ≡ 0
 number-zeros zero n = refl

@@ -1,37 +1,34 @@
--- Sums of ranges of lanes modulo 2^64: of no lane and of one, of a range that is split anywhere, and of one lane more.
+-- Sums of ranges modulo 2^D, of whatever each number adds: of no number and of one, of a range that is split anywhere, and of one number more.
 -- Assumes nothing.
-use Prim.Native.Nat.{ℕ, _+_, _-_, _%_, _^_, _≤_}
-use mathlib.Core.Path.{_≡_, _∙_, ap}
-use mathlib.Core.Bool.{Bool}
-use mathlib.Core.List.{List}
-use native.Mathlib.Nat.{sub-self}
+use Prim.Native.Nat.{ℕ, suc, _+_, _-_, _%_, _^_, _≤_}
+use mathlib.Core.Path.{_≡_, sym, _∙_, ap}
+use native.Mathlib.Nat.{sub-self, sub-zero}
 use native.Mathlib.Omega.{arith}
 use lib.IntN.{ℤ, +ℤ-idr}
 use Rattle.lanes.specs.Integer.{residue}
-use Rattle.lanes.specs.Sum.{each, activeElement, total}
+use Rattle.lanes.specs.Sum.{each, total}
 use Rattle.lanes.proofs.Residues.{residue-sum}
 use Rattle.lanes.proofs.Sums.{split-sum}
-use Rattle.sums.specs.Sums.{laneSum}
 
-module _ (signed : Bool) (w : ℕ) (predicate register : List ℕ) where
-  -- what lane e adds, and the sum of the lanes from a up to but without b
-  abbrev adds : ℕ → ℤ
-  adds = activeElement signed w predicate register
+-- the sum of what each number from a up to but without b adds
+abbrev pub rangeSum : ℕ → (ℕ → ℤ) → ℕ → ℕ → ℕ
+rangeSum D adds a b = residue D (total (each adds a (b - a)))
 
+module _ (D : ℕ) (adds : ℕ → ℤ) where
   abbrev sum : ℕ → ℕ → ℕ
-  sum a b = laneSum signed w a b predicate register
+  sum = rangeSum D adds
 
-  -- no lane adds up to zero
-  pub sum-none : (a : ℕ) → sum a a ≡ 0
+  -- no number adds up to zero
+  pub sum-none : (a : ℕ) → sum a a ≡ residue D (total (each adds a 0))
   sum-none a = rw (sub-self a)
 
-  -- a range that is split: the sum modulo 2^64 of its parts' sums
-  pub sum-split : (a m b : ℕ) → a ≤ m → m ≤ b → sum a b ≡ (sum a m + sum m b) % 2 ^ 64
+  -- a range that is split: the sum modulo 2^D of its parts' sums
+  pub sum-split : (a m b : ℕ) → a ≤ m → m ≤ b → sum a b ≡ (sum a m + sum m b) % 2 ^ D
   sum-split a m b h k =
-      ap (λ (n : ℕ). residue 64 (total (each adds a n))) whole
-      ∙ ap (residue 64) (split-sum adds a (m - a) (b - m))
-      ∙ residue-sum 64 (total (each adds a (m - a))) (total (each adds (a + (m - a)) (b - m)))
-      ∙ ap (λ (i : ℕ). (sum a m + residue 64 (total (each adds i (b - m)))) % 2 ^ 64) there
+      ap (λ (n : ℕ). residue D (total (each adds a n))) whole
+      ∙ ap (residue D) (split-sum adds a (m - a) (b - m))
+      ∙ residue-sum D (total (each adds a (m - a))) (total (each adds (a + (m - a)) (b - m)))
+      ∙ ap (λ (i : ℕ). (sum a m + residue D (total (each adds i (b - m)))) % 2 ^ D) there
     where
       whole : b - a ≡ (m - a) + (b - m)
       whole = omega arith
@@ -39,13 +36,23 @@ module _ (signed : Bool) (w : ℕ) (predicate register : List ℕ) where
       there : a + (m - a) ≡ m
       there = omega arith
 
-  -- one lane by itself
-  pub sum-one : (a : ℕ) → sum a (a + 1) ≡ residue 64 (adds a)
-  sum-one a = ap (λ (n : ℕ). residue 64 (total (each adds a n))) one ∙ ap (residue 64) (+ℤ-idr (adds a))
+  -- one number by itself
+  pub sum-one : (a : ℕ) → sum a (a + 1) ≡ residue D (adds a)
+  sum-one a = ap (λ (n : ℕ). residue D (total (each adds a n))) one ∙ ap (residue D) (+ℤ-idr (adds a))
     where
       one : a + 1 - a ≡ 1
       one = omega arith
 
-  -- one lane more
-  pub sum-next : (a b : ℕ) → a ≤ b → sum a (b + 1) ≡ (sum a b + residue 64 (adds b)) % 2 ^ 64
-  sum-next a b h = sum-split a b (b + 1) h (omega arith) ∙ ap (λ (n : ℕ). (sum a b + n) % 2 ^ 64) (sum-one b)
+  -- one number more
+  pub sum-next : (a b : ℕ) → a ≤ b → sum a (b + 1) ≡ (sum a b + residue D (adds b)) % 2 ^ D
+  sum-next a b h = sum-split a b (b + 1) h (omega arith) ∙ ap (λ (n : ℕ). (sum a b + n) % 2 ^ D) (sum-one b)
+
+  -- and from zero on
+  pub sum-suc : (n : ℕ) → residue D (total (each adds 0 (suc n))) ≡ (residue D (total (each adds 0 n)) + residue D (adds n)) % 2 ^ D
+  sum-suc n =
+      sym (ap (λ (k : ℕ). residue D (total (each adds 0 k))) more)
+      ∙ sum-next 0 n (omega arith)
+      ∙ ap (λ (k : ℕ). (residue D (total (each adds 0 k)) + residue D (adds n)) % 2 ^ D) (sub-zero n)
+    where
+      more : n + 1 - 0 ≡ suc n
+      more = omega arith

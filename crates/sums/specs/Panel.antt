@@ -39,17 +39,6 @@ pub record GovernedSegment (w s : ℕ) (predicate register : List ℕ) : Type 0 
   pub fills : FillsSegment w
   pub inside : s * segmentBytes + segmentBytes ≤ length register
 
--- lanes of 1 to 8 bytes that fill a row
-pub record RowLanes (w : ℕ) : Type 0 where
-  pub least : 1 ≤ w
-  pub most : w ≤ 8
-  pub fills : FillsSegment w
-
--- lane e of a row
-pub record RowLane (w e : ℕ) : Type 0 where
-  pub narrow : w ≤ 8
-  pub inside : e * w + w ≤ segmentBytes
-
 -- lane e of segment s: its number if it is active, else zero
 abbrev pub panelLane : ℕ → List ℕ → List ℕ → ℕ → ℕ → ℕ
 panelLane w predicate register s e =

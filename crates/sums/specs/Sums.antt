@@ -31,6 +31,12 @@ pub record Governs (w : ℕ) (predicate register : List ℕ) : Type 0 where
   pub covers : length register ≤ 8 * length predicate
   pub bits : 8 * length predicate < 2 ^ 64
 
+-- lanes of 1 to 8 bytes, of which a register has at least count
+pub record EveryLane (w count : ℕ) (register : List ℕ) : Type 0 where
+  pub least : 1 ≤ w
+  pub most : w ≤ 8
+  pub inside : count * w ≤ length register
+
 -- lane e lies within a register that a predicate governs
 pub record GovernedLane (w e : ℕ) (predicate register : List ℕ) : Type 0 where
   pub governs : Governs w predicate register

@@ -1,11 +1,10 @@
-// Sums of a register's lanes: the active lanes in order, a range split at its middle, and the panel of segments with its column sums.
+// Sums of a register's lanes: the active lanes in order, every lane in order, a range split at its middle; and the panel of segments.
 ghost use mathlib.Core.Path.{_≡_};
-ghost use Prim.Native.Nat.{_+_, _%_, _^_, _≤_};
-ghost use Rattle.lanes.specs.Lane.{lane as laneAt, fromLanes};
+ghost use Prim.Native.Nat.{_+_, _≤_};
 ghost use Rattle.lanes.specs.Integer.{residue};
-ghost use Rattle.lanes.specs.Sum.{activeElement};
-ghost use Rattle.sums.specs.Sums.{laneSum, GovernedLane, GovernedRange};
-ghost use Rattle.sums.specs.Panel.{perSegment, panelRow, panelOf, placeSum, rowsSum, GovernedSegments, GovernedSegment, RowLanes, RowLane};
+ghost use Rattle.lanes.specs.Sum.{each, element, activeElement, total};
+ghost use Rattle.sums.specs.Sums.{laneSum, EveryLane, GovernedLane, GovernedRange};
+ghost use Rattle.sums.specs.Panel.{panelRow, panelOf, GovernedSegments, GovernedSegment};
 use machine::Length;
 
 // What lane e adds: its number extended to 64 bits if it is active, else 0.
@@ -13,7 +12,7 @@ pub fn lane_value(register: &[u8], predicate: &[u8], w: usize, signed: bool, e: 
     requires { ⌜ GovernedLane w e (now predicate) (now register) ⌝ }
     ensures { λ r. ⌜ r ≡ residue 64 (activeElement signed w (now (predicate .entry)) (now (register .entry)) e) ⌝ }
 {
-    let number = lanes::extend(lanes::lane(register, w, e), w, signed);
+    let number = lanes::element_at(register, w, signed, e);
     if lanes::is_active(predicate, w, e) {
         number
     } else {
@@ -47,6 +46,33 @@ pub fn sum_lanes(register: &[u8], predicate: &[u8], w: usize, signed: bool, coun
         4 => sum_run(register, predicate, 4, signed, 0, count),
         8 => sum_run(register, predicate, 8, signed, 0, count),
         _ => sum_run(register, predicate, w, signed, 0, count),
+    }
+}
+
+// The sum of every lane below count, lane by lane, modulo 2^64.
+fn every_run(register: &[u8], w: usize, signed: bool, count: usize) -> u64
+    requires { ⌜ EveryLane w count (now register) ⌝ }
+    ensures { λ r. ⌜ r ≡ residue 64 (total (each (element signed w (now (register .entry))) 0 count)) ⌝ }
+{
+    let mut sum: u64 = 0;
+    let mut e = 0;
+    while e < count {
+        sum = std::num::wrapping_add_u64(sum, lanes::element_at(register, w, signed, e));
+        e += 1;
+    }
+    sum
+}
+
+// The sum of every lane below count, modulo 2^64; the widths of lanes are told apart, as for active lanes.
+pub fn sum_every(register: &[u8], w: usize, signed: bool, count: usize) -> u64
+    requires { ⌜ EveryLane w count (now register) ⌝ }
+    ensures { λ r. ⌜ r ≡ residue 64 (total (each (element signed w (now (register .entry))) 0 count)) ⌝ }
+{
+    match w {
+        1 => every_run(register, 1, signed, count),
+        2 => every_run(register, 2, signed, count),
+        4 => every_run(register, 4, signed, count),
+        _ => every_run(register, w, signed, count),
     }
 }
 
@@ -118,42 +144,4 @@ pub fn panel_of(register: &[u8], predicate: &[u8], w: usize) -> [[u8; 16]; 16]
         s += 1;
     }
     rows
-}
-
-// The number that lane e of a row holds.
-fn row_lane(row: [u8; 16], w: usize, e: usize) -> u64
-    requires { ⌜ RowLane w e ⌝ }
-    ensures { λ r. ⌜ r ≡ laneAt w e row ⌝ }
-{
-    lanes::lane(&row, w, e)
-}
-
-// The lanes at place e of a panel's rows, added modulo 2^64.
-fn column_sum(rows: [[u8; 16]; 16], w: usize, e: usize) -> u64
-    requires { ⌜ RowLane w e ⌝ }
-    ensures { λ r. ⌜ r ≡ placeSum w e rows % 2 ^ 64 ⌝ }
-{
-    let mut sum: u64 = 0;
-    let mut s = 0;
-    while s < Length::MOST {
-        sum = std::num::wrapping_add_u64(sum, row_lane(rows[s], w, e));
-        s += 1;
-    }
-    sum
-}
-
-// A panel's rows, added lane by lane modulo 2^width.
-pub fn column_sums(rows: [[u8; 16]; 16], w: usize) -> [u8; 16]
-    requires { ⌜ RowLanes w ⌝ }
-    ensures { λ r. ⌜ r ≡ fromLanes w 0 (perSegment w) (rowsSum w rows) ⌝ }
-{
-    let count = Length::SEGMENT_BYTES / w;
-    let mut row = [0u8; 16];
-    let mut e = 0;
-    while e < count {
-        let n = column_sum(rows, w, e);
-        lanes::put_lane(&mut row, w, e, n);
-        e += 1;
-    }
-    row
 }

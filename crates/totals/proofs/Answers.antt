@@ -14,6 +14,7 @@ use Rattle.machine.specs.Refusal.{DONE, First, inOrder, answer}
 use Rattle.machine.specs.declared.Answer.{Answer}
 use Rattle.machine.proofs.Tests.{first-exactly, one-result, refused-later}
 use Rattle.lanes.specs.Lane.{widthOf}
+use Rattle.lanes.specs.Sum.{activeElement}
 use Rattle.sums.specs.Sums.{laneSum}
 use Rattle.totals.specs.Calls.{panelTests, panelRefused, panelAnswer, subtotalTests, subtotalRefused, subtotalAnswer}
 use Rattle.sums.proofs.Ranges.{sum-none}
@@ -56,7 +57,7 @@ module _ (k : ℕ) (z p : List ℕ) (source predicate size : ℕ) where
     subtotal-of-none a =
         zero-value (subtotalRefused k z p source predicate size a a)
         (laneSum signed (widthOf size) a a (predicateOf k predicate p) (vectorOf k source z))
-        (sum-none signed (widthOf size) (predicateOf k predicate p) (vectorOf k source z) a)
+        (sum-none 64 (activeElement signed (widthOf size) (predicateOf k predicate p) (vectorOf k source z)) a)
 
     -- the subtotal of all lanes is the sum of all lanes in order
     pub subtotal-of-all : panelRefused k z p source predicate size ≡ DONE

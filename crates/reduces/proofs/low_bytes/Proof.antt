@@ -34,8 +34,8 @@ reduction-low-requires c κs =
     let h = start r .pre .0 .word in
     rw (r .before .before .width-of .ensures, r .before .register .ensures, r .register2 .ensures) (governs _ _ _ h _ (h .fields .n))
 
-segment-low-requires : tie.Need-segment-low-requires
-segment-low-requires c κs =
+segment-sums-requires : tie.Need-segment-sums-requires
+segment-sums-requires c κs =
     let r = c .before .before in
     let h = start r .pre .0 .word in
     let size = vector-length _ _ _ h _ (h .fields .n) in
@@ -67,7 +67,7 @@ returns c =
 returns-2 : tie.Need-returns-2
 returns-2 c =
     let r = c .before .before .before in
-    (rw (r .before .before .width-of .ensures, r .before .register .ensures, r .register2 .ensures) at (c .segment-low .ensures))
+    (rw (r .before .before .width-of .ensures, r .before .register .ensures, r .register2 .ensures) at (c .segment-sums .ensures))
     ∙ written-segment _ _ _ (start r .pre .0 .word) (start r .pre .0 .is ∙ ap Low (c .before .enum-told2 .given .1))
 
 returns-3 : tie.Need-returns-3
@@ -86,7 +86,7 @@ low-bytes-spec =
     (λ c. search needs)
     reduction-low-requires
     (λ c. search needs)
-    segment-low-requires
+    segment-sums-requires
     (λ c. search needs)
     long-low-requires
     returns

@@ -6,6 +6,7 @@ use Prim.Native.Nat.{ℕ, _+_, _-_, _/_, _%_, _^_, _<_}
 use mathlib.Core.Path.{sym, _∙_, ap₂}
 use native.Mathlib.Nat.{mul-le-mul-right}
 use native.Mathlib.Omega.{arith}
+use Rattle.lanes.specs.Sum.{activeElement}
 use Rattle.sums.proofs.Ranges.{sum-split}
 use borrow.Fn.Kinds.{In}
 use borrow.Fn.PlainCycle.{Measures, is, falls, and}
@@ -79,7 +80,7 @@ sum-between-returns-2 t c =
     let a = start t (c .before .before .before) .args in
     c .wrapping-add-u64 .ensures
     ∙ ap₂ (λ (m n : ℕ). (m + n) % 2 ^ 64) (c .before .before .sum-between .ensures) (c .before .sum-between2 .ensures)
-    ∙ sym (sum-split (a .signed) (a .w) (a .predicate .now) (a .register .now) (a .a) (a .a + (a .b - a .a) / 2) (a .b) (omega arith) (omega arith))
+    ∙ sym (sum-split 64 (activeElement (a .signed) (a .w) (a .predicate .now) (a .register .now)) (a .a) (a .a + (a .b - a .a) / 2) (a .b) (omega arith) (omega arith))
 
 pub +sum-between-spec : {M : Type 1} → statement M
 +sum-between-spec = close μ-sum-between λ t. sum-between-lts.spec (callees t)

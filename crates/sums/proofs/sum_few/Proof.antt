@@ -4,9 +4,10 @@ use borrow.Author.Needs.{needs}
 use Prim.Native.Nat.{ℕ, _+_, _%_, _^_}
 use mathlib.Core.Path.{_≡_, sym, _∙_, ap, ap₂}
 use native.Mathlib.Omega.{arith}
+use lib.IntN.{ℤ}
 use Rattle.machine.proofs.Places.{place-within}
-use Rattle.sums.specs.Sums.{laneSum}
-use Rattle.sums.proofs.Ranges.{sum-none, sum-one, sum-next}
+use Rattle.lanes.specs.Sum.{activeElement}
+use Rattle.sums.proofs.Ranges.{rangeSum, sum-none, sum-one, sum-next}
 use Rattle.sums.proofs.sum_few.Statement.{statement}
 use Rattle.sums.proofs.sum_few.Tie as tie
 
@@ -14,19 +15,22 @@ use Rattle.sums.proofs.sum_few.Tie as tie
 abbrev start : tie.Else1 → tie.Start
 start c = c .before .before .before
 
--- the sum of the lanes from a on
+-- what a lane adds, and the sum of the lanes from a on
+abbrev adds : tie.Start → ℕ → ℤ
+adds s = activeElement (s .args .signed) (s .args .w) (s .args .predicate .now) (s .args .register .now)
+
 abbrev sum : tie.Start → ℕ → ℕ
-sum s b = laneSum (s .args .signed) (s .args .w) (s .args .a) b (s .args .predicate .now) (s .args .register .now)
+sum s b = rangeSum 64 (adds s) (s .args .a) b
 
 first : (c : tie.After-lane-value) → c .lane-value .result ≡ sum (start (c .before)) (start (c .before) .args .a + 1)
 first c =
     let s = start (c .before) in
-    c .lane-value .ensures ∙ sym (sum-one (s .args .signed) (s .args .w) (s .args .predicate .now) (s .args .register .now) (s .args .a))
+    c .lane-value .ensures ∙ sym (sum-one 64 (adds s) (s .args .a))
 
 returns : tie.Need-returns
 returns c =
     let s = c .before .before .before in
-    sym (ap (sum s) (sym (c .if1 .taken)) ∙ sum-none (s .args .signed) (s .args .w) (s .args .predicate .now) (s .args .register .now) (s .args .a))
+    sym (ap (sum s) (sym (c .if1 .taken)) ∙ sum-none 64 (adds s) (s .args .a))
 
 lane-value-requires : tie.Need-lane-value-requires
 lane-value-requires c κs =
@@ -51,7 +55,7 @@ returns-3 c =
     let two : s .args .a + 1 + 1 ≡ s .args .b = omega arith in
     c .wrapping-add-u64 .ensures
     ∙ ap₂ (λ (m n : ℕ). (m + n) % 2 ^ 64) (first l) (c .before .lane-value2 .ensures)
-    ∙ sym (sum-next (s .args .signed) (s .args .w) (s .args .predicate .now) (s .args .register .now) (s .args .a) (s .args .a + 1) (omega arith))
+    ∙ sym (sum-next 64 (adds s) (s .args .a) (s .args .a + 1) (omega arith))
     ∙ ap (sum s) two
 
 pub sum-few-spec : {M : Type 1} → statement M

@@ -5,6 +5,7 @@ use Prim.Native.Nat.{_+_, _-_, _%_, _^_, _≤_, ℕ}
 use mathlib.Core.Path.{_≡_, sym, _∙_, ap₂}
 use native.Mathlib.Omega.{arith}
 use Rattle.machine.proofs.Places.{place-within}
+use Rattle.lanes.specs.Sum.{activeElement}
 use Rattle.sums.specs.Sums.{laneSum}
 use Rattle.sums.proofs.Ranges.{sum-none, sum-next}
 use Rattle.sums.proofs.sum_run.Statement.{statement}
@@ -23,7 +24,7 @@ start c = c .before .before .before
 loop-holds : tie.Need-loop-holds Inv-loop μ-loop
 loop-holds c =
     let a = c .before .before .args in
-    (omega arith, omega arith, sym (sum-none (a .signed) (a .w) (a .predicate .now) (a .register .now) (a .a)))
+    (omega arith, omega arith, sym (sum-none 64 (activeElement (a .signed) (a .w) (a .predicate .now) (a .register .now)) (a .a)))
 
 lane-value-requires : tie.Need-lane-value-requires Inv-loop μ-loop
 lane-value-requires c κs =
@@ -40,7 +41,7 @@ loop-again c =
       omega arith,
       c .wrapping-add-u64 .ensures
           ∙ ap₂ (λ (m n : ℕ). (m + n) % 2 ^ 64) (l .inv .2) (c .before .lane-value .ensures)
-          ∙ sym (sum-next (a .signed) (a .w) (a .predicate .now) (a .register .now) (a .a) (l .e) (omega arith)),
+          ∙ sym (sum-next 64 (activeElement (a .signed) (a .w) (a .predicate .now) (a .register .now)) (a .a) (l .e) (omega arith)),
     )
 
 returns : tie.Need-returns Inv-loop μ-loop
