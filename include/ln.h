@@ -61,7 +61,7 @@ extern "C" {
 #endif
 
 /* The version of this header and its library. It grows with every change that a program can notice. */
-#define LN_VERSION 4
+#define LN_VERSION 5
 
 /* The versions of the stored forms. */
 #define LN_JOURNAL_VERSION 1
@@ -151,6 +151,10 @@ enum ln_row {
 #define LN_PANEL_ROW_BYTES 16
 #define LN_PANEL_BYTES 256
 #define LN_SESSION_HEADER_BYTES 8
+
+/* The most bytes of stack that ln_step takes below its caller, with its return address and all that it
+ * calls. It is measured, on the library's own code, and not proved. */
+#define LN_STEP_STACK 320
 
 /* The name of an answer number, as the enumeration has it: "DONE", "LENGTH" and so on. */
 static inline const char *ln_refusal_name(uint64_t number)

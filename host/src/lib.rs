@@ -50,6 +50,9 @@ pub const LEAST_TEXT_OUT: usize = 32;
 pub const LONGEST_LINE: usize = 546;
 /// The bytes of a panel.
 pub const PANEL_BYTES: usize = 256;
+/// The most bytes of stack that the library's step takes below its caller: measured, not proved.
+/// What [`step`] itself adds is the compiler's.
+pub const STEP_STACK: usize = 320;
 
 /// The bytes of a vector register; a predicate register has an eighth as many.
 ///

@@ -18,6 +18,7 @@ fn the_header_has_the_same_numbers() {
         ("LEAST_TEXT_OUT", LEAST_TEXT_OUT),
         ("LONGEST_LINE", LONGEST_LINE),
         ("PANEL_BYTES", PANEL_BYTES),
+        ("STEP_STACK", STEP_STACK),
         ("VECTOR_BYTES(4)", vector_bytes(4)),
         ("PREDICATE_BYTES(4)", predicate_bytes(4)),
         ("VECTOR_FILE_BYTES(4)", vector_file_bytes(4)),

@@ -12,7 +12,7 @@ mod random;
 mod split;
 mod typed;
 
-use ghishmadul::{Kind, Lanes, Refusal};
+use ghishmadul::{Kind, Lanes, Refusal, LENGTHS};
 use random::Random;
 use reference::{Row, TABLE};
 use std::ops::Range;
@@ -462,7 +462,7 @@ fn time_words(timer: &Timer) {
     );
     let (mut segments, mut others) = (Slowest::default(), Slowest::default());
     for (name, word) in WORDS {
-        for k in [1, 4, 16] {
+        for k in LENGTHS {
             let mut state = State::new(k, 0, with_registers(word));
             let sides: [Turn; 3] =
                 [State::step::<Engine>, State::step::<Plain>, State::step::<ByHand>];
@@ -481,8 +481,8 @@ fn time_words(timer: &Timer) {
             slowest.see(engine / by_hand, format!("{} k {}", name, k));
         }
     }
-    others.say("these by hand but addqv's", 3.0);
-    println!("slowest of addqv's: {} at {:.2}", segments.row, segments.ratio);
+    segments.say("addqv's by hand", 3.0);
+    others.say("the others by hand", 3.0);
 }
 
 /// A subtotal of all lanes, beside the same split and beside a loop in lane order.
