@@ -10,7 +10,8 @@ const UNSIGNED: u32 = 1 << 11;
 const SUBTRACT: u32 = 1 << 12;
 const WIDE: u32 = 1 << 14;
 
-/// The first row of the widening words, and the last.
+/// The row of addqv, the first row of the widening words, and the last.
+const ADDQV: usize = 2;
 const SADDLB: usize = 7;
 const USUBWT: usize = 22;
 
@@ -179,6 +180,12 @@ fn slip(k: usize, z: &mut [u8], p: &[u8], mut before: Vec<u8>, fields: Fields) {
         }
         moved
     };
+    // The predicate file with other bits for these segments.
+    let governed = |segments: Range<usize>, bits: u8| {
+        let mut governed = p.to_vec();
+        governed[governing + 2 * segments.start..governing + 2 * segments.end].fill(bits);
+        governed
+    };
     // What this word leaves of the bytes before.
     let mut again = |word: u32, p: &[u8], before: &mut Vec<u8>| {
         let mut journal = vec![0; 8 + 1 + bytes];
@@ -195,6 +202,19 @@ fn slip(k: usize, z: &mut [u8], p: &[u8], mut before: Vec<u8>, fields: Fields) {
         "destination cleared before the sources are read" => {
             before[destination].fill(0);
             again(word, p, &mut before);
+        }
+        "addqv adds inactive lanes" if fields.row == ADDQV => {
+            again(word, &governed(0..k, 255), &mut before)
+        }
+        "addqv leaves out a segment" if fields.row == ADDQV => {
+            again(word, &governed(k - 1..k, 0), &mut before)
+        }
+        "a column of addqv takes its neighbour's lane" if fields.row == ADDQV => {
+            z[destination][..16].rotate_left(width)
+        }
+        "addqv carries into the next lane" if fields.row == ADDQV => {
+            let lanes = Lanes { source: fields.n, governing: fields.g, size: fields.size };
+            z[destination][..16].copy_from_slice(&double_words_added(k, &before, p, lanes))
         }
         "a sum for a difference" if has(SUBTRACT) => again(word ^ SUBTRACT, p, &mut before),
         "a sum for usubwt .d alone" if fields.row == USUBWT && fields.size == 3 => {
@@ -226,6 +246,21 @@ fn slip(k: usize, z: &mut [u8], p: &[u8], mut before: Vec<u8>, fields: Fields) {
         }
         _ => {}
     }
+}
+
+/// The rows of a panel added as two double words each, whatever the width of its lanes is.
+fn double_words_added(k: usize, z: &[u8], p: &[u8], lanes: Lanes) -> [u8; 16] {
+    let mut rows = [0; 256];
+    reference::panel(k, z, p, lanes, &mut rows).expect("a panel");
+    let mut sums = [0; 16];
+    for row in rows.chunks_exact(16) {
+        for (sum, half) in sums.chunks_exact_mut(8).zip(row.chunks_exact(8)) {
+            let number = |bytes: &[u8]| u64::from_le_bytes(bytes.try_into().expect("eight bytes"));
+            let added = number(sum).wrapping_add(number(half));
+            sum.copy_from_slice(&added.to_le_bytes());
+        }
+    }
+    sums
 }
 
 /// A lane's number, modulo 2^width, with the other sign.

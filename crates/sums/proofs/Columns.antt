@@ -1,23 +1,21 @@
 -- Column sums: adding a panel's rows lane by lane is adding the register's active lanes segment by segment.
 -- Assumes nothing.
-use Prim.Native.Nat.{ℕ, zero, suc, _+_, _*_, _-_, _/_, _%_, _^_, _≤_, _<_}
+use Prim.Native.Nat.{ℕ, zero, suc, _+_, _*_, _-_, _/_, _%_, _^_, _<_}
 use mathlib.Core.Path.{_≡_, refl, sym, _∙_, ap, ap₂}
 use mathlib.Core.Bool.{Bool, true, false, cond}
-use mathlib.Core.List.{List, [], _∷_, _++_, append-nil}
-use native.Mathlib.Nat.{zero-add, suc-add, add-zero, add-assoc, mod-add-mod, add-mod-mod}
-use native.Mathlib.Numerals.{add-one}
+use mathlib.Core.List.{List, [], append-nil}
+use native.Mathlib.Nat.{zero-add, suc-add, add-zero, add-mod-mod}
 use native.Mathlib.Omega.{arith}
-use lib.ListN.{length, take, getD, replicate}
-use lib.Seq.{take-suc}
+use lib.ListN.{length, take, replicate}
 use lib.IntN.{pos}
 use Rattle.machine.specs.Size.{segmentBytes, mostLength}
-use Rattle.parts.specs.Number.{number, bytesOf, bitsOf}
+use Rattle.parts.specs.Number.{number, bitsOf}
 use Rattle.parts.proofs.Numbers.{drop-replicate}
 use Rattle.lanes.specs.Lane.{lane, active, fromLanes}
 use Rattle.lanes.specs.Integer.{residue}
 use Rattle.lanes.specs.Sum.{each, counted, total}
 use Rattle.lanes.proofs.Residues.{residue-sum}
-use Rattle.lanes.proofs.Written.{read-lane, bytes-residue, same-lanes}
+use Rattle.lanes.proofs.Written.{read-lane, same-lanes}
 use Rattle.sums.specs.Panel.{perSegment, WholeSegments, panelLane, panelRow, panelFrom, panelOf, columnElement, columnSum, placeSum, rowsSum}
 use Rattle.sums.proofs.Panels.{noRow, panel-row, panel-past}
 

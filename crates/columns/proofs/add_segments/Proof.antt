@@ -1,15 +1,12 @@
 -- `add_segments` meets its contract: after h halves the row has the sums of h / 2 segments, and of one more at the places of a lower half.
 -- Assumes nothing.
-use borrow.Author.Needs.{needs}
-use Prim.Native.Nat.{ℕ, _+_, _*_, _-_, _/_, _%_, _≤_}
+use Prim.Native.Nat.{ℕ, _*_, _-_, _/_, _%_, _≤_}
 use mathlib.Core.Path.{_≡_, sym, _∙_, ap, ap₂}
 use native.Mathlib.Nat.{zero-mul}
 use native.Mathlib.Omega.{arith}
 use lib.ListN.{length}
 use Rattle.machine.specs.Size.{segmentBytes}
-use Rattle.lanes.specs.Lane.{fromLanes}
-use Rattle.sums.specs.Panel.{perSegment}
-use Rattle.columns.specs.Added.{halfBytes, perHalf, columnBelow, addedRow}
+use Rattle.columns.specs.Added.{perHalf, addedRow}
 use Rattle.columns.proofs.Halves.{two-halves}
 use Rattle.columns.proofs.Adding.{added-none, added-all, half-added}
 use Rattle.columns.proofs.add_segments.Statement.{statement}
