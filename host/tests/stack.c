@@ -128,6 +128,23 @@ static size_t most_of(size_t row)
     return most;
 }
 
+/* Says what a row's deepest step takes, the row by the name in a word's text. */
+static void say(size_t row, size_t bytes)
+{
+    uint8_t text[LN_LEAST_TEXT_OUT];
+    int name = 0;
+
+    if (row == ROWS) {
+        printf("no row   %d bytes\n", (int)bytes);
+        return;
+    }
+    ln_text(word_of(row, 1), text, sizeof text);
+    while (text[name] != ' ') {
+        name++;
+    }
+    printf("%-6.*s   %d bytes\n", name, (const char *)text, (int)bytes);
+}
+
 int main(int count, char **arguments)
 {
     size_t row;
@@ -138,7 +155,7 @@ int main(int count, char **arguments)
     for (row = 0; row <= ROWS; row++) {
         size_t most = most_of(row);
         if (count > 1) {
-            printf(row < ROWS ? "row %d: %d bytes\n" : "no row (%d): %d bytes\n", (int)row, (int)most);
+            say(row, most);
         }
     }
     printf("%d steps done, %d words refused\n", (int)done, (int)refused);
