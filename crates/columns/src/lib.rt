@@ -20,8 +20,8 @@ fn add_lane(row: &mut [u8], w: usize, e: usize, n: u64)
     lanes::put_lane(row, w, e, sum);
 }
 
-// Adds the lanes of half h of a register to a row, each at its place in a segment. The place is a number that a compiler does not know, so
-// that the row stays where it is: with its lanes in registers, and several segments at a time, a step would take twice the stack.
+// Adds the lanes of half h of a register to a row, each at its place in a segment. Whether the half is an upper one is a number that a compiler
+// does not know, so that the row stays in memory: held in registers, several segments at a time, it would take three times the stack.
 fn add_half(row: &mut [u8; 16], register: &[u8], predicate: &[u8], w: usize, h: usize)
     requires { ⌜ GovernedHalf w h (now predicate) (now register) × (now row ≡ addedRow w (now predicate) (now register) (h / 2) (h % 2 * perHalf w)) ⌝ }
     ensures { λ _. ⌜ now (row .exit) ≡ addedRow w (now (predicate .entry)) (now (register .entry)) (h / 2) (h % 2 * perHalf w + perHalf w) ⌝ }
