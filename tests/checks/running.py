@@ -116,7 +116,7 @@ def links(room):
 
 RT = """#!/bin/sh
 # a stand-in for rt: it builds by copying, and says what rt would say
-[ "$1" = doc ] && exec "$REAL_RT" doc
+[ "$1" = doc ] && PATH=$REAL_PATH exec "$REAL_RT" doc
 case $WHAT in
 proved) echo 'fn machine::check_length: proved'; echo 'rt: machine proved (9 s)'; echo 'rt: walk proved (10 s)'; mkdir -p target/bin target/stamp; cp "$REAL_WALK" target/bin/walk; : >target/stamp/walk ;;
 slow) sleep 4; echo 'rt: machine proved (unchanged since it was last proved)'; echo 'rt: walk proved (5 s)' ;;
@@ -138,7 +138,8 @@ def building(room):
     with open(os.path.join(tools, "rt"), "w") as file:
         file.write(RT)
     os.chmod(os.path.join(tools, "rt"), 0o755)
-    env = dict(os.environ, PATH=tools + ":" + os.environ["PATH"], REAL_WALK=WALK[-1], REAL_RT=shutil.which("rt") or "rt")
+    env = dict(os.environ, PATH=tools + ":" + os.environ["PATH"], REAL_PATH=os.environ["PATH"], REAL_WALK=WALK[-1],
+               REAL_RT=shutil.which("rt") or "rt")
     paper = read("examples/paper.expected")
 
     def built(what, *args, **more):
