@@ -1,0 +1,36 @@
+-- What a row needs of a core, and whether a core has it.
+use Prim.Native.Nat.{ℕ}
+use mathlib.Core.Bool.{Bool, true, false}
+use Rattle.facts.specs.declared.Facts.{Facts}
+use Rattle.rows.specs.Table.{rowAt}
+use Rattle.rows.specs.declared.Operation.{Operation}
+use Rattle.rows.specs.declared.Operation.the-variants.{Reduce, Segments, Across, Pairs, AddLong, SubLong, AddWide, SubWide}
+use Rattle.cores.specs.declared.Need.{Need}
+use Rattle.cores.specs.declared.Need.the-variants.{Nothing, SveOrSme, Sve2OrSme, Sve2p1OrSme2p1}
+
+-- one of two tests
+abbrev pub either : Bool → Bool → Bool
+either true b = true
+either false b = b
+
+-- a core has what is needed
+abbrev pub has : Facts → Need → Bool
+has facts Nothing = true
+has facts SveOrSme = either (facts .sve) (facts .sme)
+has facts Sve2OrSme = either (facts .sve2) (facts .sme)
+has facts Sve2p1OrSme2p1 = either (facts .sve2p1) (facts .sme2p1)
+
+-- what an operation needs
+abbrev pub needFor : Operation → Need
+needFor Reduce = SveOrSme
+needFor Segments = Sve2p1OrSme2p1
+needFor Across = Nothing
+needFor Pairs = Sve2OrSme
+needFor AddLong = Sve2OrSme
+needFor SubLong = Sve2OrSme
+needFor AddWide = Sve2OrSme
+needFor SubWide = Sve2OrSme
+
+-- what the row at a place needs
+unfoldable pub needOf : ℕ → Need
+needOf i = needFor (rowAt i .3)

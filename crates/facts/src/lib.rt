@@ -1,0 +1,58 @@
+// What a core has, as five facts, and the byte that stands for them.
+ghost use mathlib.Core.Path.{_≡_};
+ghost use Prim.Native.Nat.{_<_};
+ghost use Rattle.facts.specs.Facts.{isSet, factsOf, byteOf, Weighed};
+
+pub mod bit;
+
+// What a core has; none of the five implies another.
+pub struct Facts {
+    pub sve: bool,
+    pub sve2: bool,
+    pub sve2p1: bool,
+    pub sme: bool,
+    pub sme2p1: bool,
+}
+
+// The byte of all five.
+pub const ALL: u8 = 31;
+
+// Whether a bit of a byte is set.
+fn is_set(byte: u8, bit: u8) -> bool
+    requires { ⌜ 0 < bit ⌝ }
+    ensures { λ r. ⌜ r ≡ isSet byte bit ⌝ }
+{
+    byte / bit % 2 == 1
+}
+
+// The facts of a byte: its five low bits in their order; higher ones do not matter.
+pub fn facts_of(byte: u8) -> Facts
+    ensures { λ r. ⌜ r ≡ factsOf byte ⌝ }
+{
+    Facts {
+        sve: is_set(byte, bit::SVE),
+        sve2: is_set(byte, bit::SVE2),
+        sve2p1: is_set(byte, bit::SVE2P1),
+        sme: is_set(byte, bit::SME),
+        sme2p1: is_set(byte, bit::SME2P1),
+    }
+}
+
+// What a fact adds to a byte: its bit, where it holds.
+fn weight_of(holds: bool, bit: u8) -> u8
+    ensures { λ r. ⌜ Weighed holds bit r ⌝ }
+{
+    if holds { bit } else { 0 }
+}
+
+// The byte of facts.
+pub fn byte_of(facts: Facts) -> u8
+    ensures { λ r. ⌜ r ≡ byteOf facts ⌝ }
+{
+    let sve = weight_of(facts.sve, bit::SVE);
+    let sve2 = weight_of(facts.sve2, bit::SVE2);
+    let sve2p1 = weight_of(facts.sve2p1, bit::SVE2P1);
+    let sme = weight_of(facts.sme, bit::SME);
+    let sme2p1 = weight_of(facts.sme2p1, bit::SME2P1);
+    sve + sve2 + sve2p1 + sme + sme2p1
+}
