@@ -19,6 +19,9 @@ use Rattle.words.specs.declared.Decoded.the-variants.{Unknown, Undefined, Word}
 use Rattle.rows.specs.Table.{familyOf}
 use Rattle.words.proofs.Decoding.{governing-below, second-below, q-below}
 use Rattle.words.proofs.Encoding.{decoded-in-range, encoded-decoded}
+use Rattle.facts.specs.declared.Facts.{Facts}
+use Rattle.cores.specs.Core.{decodedOn}
+use Rattle.cores.proofs.Answers.{core-decodes, done-on}
 use Rattle.names.specs.Text.{textOf}
 use Rattle.names.specs.Named.{leastOut, textOfDecoded, textOfWord, Named}
 use Rattle.names.proofs.Naming.{done-accepted, accepted-named}
@@ -49,10 +52,14 @@ in-place f r =
       q = mod-eq-of-lt (q-below family (r .q)) t;
     }
 
+-- a word that a core accepts decodes to its fields
+pub accepted-on : (facts : Facts) (word : ℕ) → numberOf (decodedOn facts word) ≡ DONE → (f : Fields) × (decoded word ≡ Word f)
+accepted-on facts word e = let (f, is) = done-on facts word e in (f, core-decodes facts word f is)
+
 -- the word that is read in a text of an accepted word is that word
-pub read-word : (text : List ℕ) (word : ℕ) → ReadsAs word text → wordOf (fieldsFrom text) ≡ word
-read-word text word reads =
-    let (f, is) = accepted-word word (reads .accepted) in
+pub read-word : (facts : Facts) (text : List ℕ) (word : ℕ) → ReadsAs facts word text → wordOf (fieldsFrom text) ≡ word
+read-word facts text word reads =
+    let (f, is) = accepted-on facts word (reads .accepted) in
     let r = decoded-in-range word f is in
     let text-is : text ≡ textOf f = sym (reads .reads) ∙ ap textOfDecoded is in
     ap wordOf (ap fieldsFrom text-is ∙ read-back f r)
@@ -61,26 +68,26 @@ read-word text word reads =
     ∙ mod-eq-of-lt (reads .below)
 
 -- the two answers
-pub assembled-done : (text : List ℕ) (word : ℕ) → ReadsAs word text → Assembled text (record { number = DONE; value = word })
-assembled-done text word reads = record { number = inl refl; done = λ _. reads; refused = λ z. absurd (omega arith) }
+pub assembled-done : (facts : Facts) (text : List ℕ) (word : ℕ) → ReadsAs facts word text → Assembled text facts (record { number = DONE; value = word })
+assembled-done facts text word reads = record { number = inl refl; done = λ _. reads; refused = λ z. absurd (omega arith) }
 
-pub assembled-none : (text : List ℕ) → ((word : ℕ) → ReadsAs word text → ⊥) → Assembled text (record { number = TEXT; value = 0 })
-assembled-none text none = record { number = inr refl; done = λ z. absurd (omega arith); refused = λ _. (refl, none) }
+pub assembled-none : (facts : Facts) (text : List ℕ) → ((word : ℕ) → ReadsAs facts word text → ⊥) → Assembled text facts (record { number = TEXT; value = 0 })
+assembled-none facts text none = record { number = inr refl; done = λ z. absurd (omega arith); refused = λ _. (refl, none) }
 
 -- a word that was named and whose text is this one reads as it
-pub checked : (text old new : List ℕ) (word : ℕ) (r : Answer) → word < 2 ^ wordDigits → Named word old new r → r .number ≡ DONE
-    → take (r .value) new ≡ text → ReadsAs word text
-checked text old new word r below named done same =
-    let (long, accepted) = done-accepted word old new r named done in
-    let (_, front) = accepted-named word old new r named long accepted in
+pub checked : (facts : Facts) (text old new : List ℕ) (word : ℕ) (r : Answer) → word < 2 ^ wordDigits → Named word facts old new r → r .number ≡ DONE
+    → take (r .value) new ≡ text → ReadsAs facts word text
+checked facts text old new word r below named done same =
+    let (long, accepted) = done-accepted word facts old new r named done in
+    let (_, front) = accepted-named word facts old new r named long accepted in
     record { below = below; accepted = accepted; reads = sym front ∙ same }
 
 -- and where naming the word that was read does not give this text, no word reads as it
-pub unchecked : (text old new : List ℕ) (word : ℕ) (r : Answer) → word ≡ wordOf (fieldsFrom text) → leastOut ≤ length old → Named word old new r
-    → (r .number ≡ DONE → take (r .value) new ≡ text → ⊥) → (v : ℕ) → ReadsAs v text → ⊥
-unchecked text old new word r read long named differ v reads =
-    let is : word ≡ v = read ∙ read-word text v reads in
-    let (number, front) = accepted-named word old new r named long (rw is (reads .accepted)) in
+pub unchecked : (facts : Facts) (text old new : List ℕ) (word : ℕ) (r : Answer) → word ≡ wordOf (fieldsFrom text) → leastOut ≤ length old → Named word facts old new r
+    → (r .number ≡ DONE → take (r .value) new ≡ text → ⊥) → (v : ℕ) → ReadsAs facts v text → ⊥
+unchecked facts text old new word r read long named differ v reads =
+    let is : word ≡ v = read ∙ read-word facts text v reads in
+    let (number, front) = accepted-named word facts old new r named long (rw is (reads .accepted)) in
     differ number (front ∙ ap textOfWord is ∙ reads .reads)
 
 pub word-below : (f : Fields) → wordOf f < 2 ^ wordDigits

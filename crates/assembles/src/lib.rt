@@ -1,4 +1,5 @@
-// Text to word: the fields are read leniently, the word with these fields is named, and its text must be the bytes that were given.
+// Text to word: the fields are read leniently, the word with these fields is named on the core, and its text must be the bytes that were given.
+use facts::Facts;
 use machine::Answer;
 use machine::refusal;
 use rows::Family;
@@ -104,14 +105,14 @@ fn encode(f: Fields) -> u32
     (sum % 0x100000000) as u32
 }
 
-// The accepted word that reads as this text, or TEXT. The word that is read is named, and its text must be this one.
-pub fn assemble(text: &[u8]) -> Answer
-    ensures { λ r. ⌜ Assembled (now (text .entry)) r ⌝ }
+// The word that the core accepts and that reads as this text, or TEXT. The word that is read is named, and its text must be this one.
+pub fn assemble(text: &[u8], facts: Facts) -> Answer
+    ensures { λ r. ⌜ Assembled (now (text .entry)) facts r ⌝ }
 {
     let word = encode(read_fields(text));
     let value = word as u64;
     let mut line = [0u8; names::LEAST_OUT];
-    let named = names::text(word, &mut line);
+    let named = names::text(word, facts, &mut line);
     let count = named.value as usize;
     if named.number == refusal::DONE {
         if check::same(&line[..count], text) {

@@ -3,6 +3,7 @@ mod row;
 
 use digits::put;
 use digits::put_bytes;
+use facts::Facts;
 use machine::Answer;
 use machine::refusal;
 use row::key_of;
@@ -70,13 +71,13 @@ fn put_text(out: &mut [u8], f: Fields) -> usize
 }
 
 // A word's text at the front of the output, and its length; bytes past it stay. Refused: OUT, UNKNOWN, UNDEFINED.
-pub fn text(word: u32, out: &mut [u8]) -> Answer
-    ensures { λ r. ⌜ Named word (now (out .entry)) (now (out .exit)) r ⌝ }
+pub fn text(word: u32, facts: Facts, out: &mut [u8]) -> Answer
+    ensures { λ r. ⌜ Named word facts (now (out .entry)) (now (out .exit)) r ⌝ }
 {
     if out.len() < LEAST_OUT {
         return refuse(refusal::OUT);
     }
-    match words::decode(word) {
+    match cores::decode(word, facts) {
         Decoded::Unknown => refuse(refusal::UNKNOWN),
         Decoded::Undefined => refuse(refusal::UNDEFINED),
         Decoded::Word(fields) => {

@@ -25,7 +25,7 @@ written c = c .before .before
 
 -- a text is shorter than the line
 short : (c : tie.After-text) → c .text .result .value ≤ mostText
-short c = named-most _ _ _ _ (c .text .ensures)
+short c = named-most _ _ _ _ _ (c .text .ensures)
 
 -- the word is the one that is read
 read : (c : tie.After-encode) → c .encode .result ≡ wordOf (fieldsFrom (start c .args .text .now))
@@ -46,23 +46,23 @@ returns c =
     let named = c .before .before .before in
     let w = written (named .before) in
     let word = made w in
-    assembled-done _ _
-    (checked (start word .args .text .now) _ _ _ _ (rw (word .encode .ensures) (word-below (word .before .read-fields .result))) (w .text .ensures) (named .if1 .taken)
+    assembled-done _ _ _
+    (checked _ (start word .args .text .now) _ _ _ _ (rw (word .encode .ensures) (word-below (word .before .read-fields .result))) (w .text .ensures) (named .if1 .taken)
     (c .before .same .ensures .0 (c .if2 .taken)))
 
 returns-2 : tie.Need-returns-2
 returns-2 c =
     let named = c .before .before .before in
     let w = written (named .before) in
-    assembled-none _
-    (unchecked (start (made w) .args .text .now) _ _ _ _ (read (made w)) (omega arith) (w .text .ensures)
+    assembled-none _ _
+    (unchecked _ (start (made w) .args .text .now) _ _ _ _ (read (made w)) (omega arith) (w .text .ensures)
     (λ n e. not-both (sym (c .before .same .ensures .1 e) ∙ c .if2 .left)))
 
 returns-3 : tie.Need-returns-3
 returns-3 c =
     let w = written (c .before) in
-    assembled-none _
-    (unchecked (start (made w) .args .text .now) _ _ _ _ (read (made w)) (omega arith) (w .text .ensures) (λ n e. c .if1 .left n))
+    assembled-none _ _
+    (unchecked _ (start (made w) .args .text .now) _ _ _ _ (read (made w)) (omega arith) (w .text .ensures) (λ n e. c .if1 .left n))
 
 pub assemble-spec : {M : Type 1} → statement M
 assemble-spec =
