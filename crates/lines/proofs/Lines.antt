@@ -18,6 +18,9 @@ use Rattle.registers.specs.State.{State}
 use Rattle.words.specs.Decode.{decoded, wordTests}
 use Rattle.words.specs.declared.Decoded.{Decoded}
 use Rattle.words.specs.declared.Decoded.the-variants.{Unknown, Undefined, Word}
+use Rattle.facts.specs.declared.Facts.{Facts}
+use Rattle.facts.specs.Facts.{allFacts}
+use Rattle.cores.proofs.Answers.{on-all}
 use Rattle.digits.specs.Put.{Put}
 use Rattle.names.specs.Named.{leastOut, textOfDecoded, textOfWord, nameRefused, Named}
 use Rattle.names.proofs.Pieces.{word-length}
@@ -29,14 +32,14 @@ pub ended-length : (field : List ℕ) → length (withNewline field) ≡ length 
 ended-length field = length-append field (10 ∷ [])
 
 -- the tests of a line are in the paper's order
-pub line-in-order : (k : ℕ) (s : State) (program : List ℕ) (position number n : ℕ) → inOrder (lineTests k s program position number n) ≡ true
-line-in-order k s program position number n = refl
+pub line-in-order : (k : ℕ) (facts : Facts) (s : State) (program : List ℕ) (position number n : ℕ) → inOrder (lineTests k facts s program position number n) ≡ true
+line-in-order k facts s program position number n = refl
 
 -- each refusal of a line comes exactly where its test holds and none before it does
-pub line-exactly : (k : ℕ) (s : State) (program : List ℕ) (position number n m : ℕ)
-    → lineRefused k s program position number n ≡ suc m ↔ First (lineTests k s program position number n) (suc m)
+pub line-exactly : (k : ℕ) (facts : Facts) (s : State) (program : List ℕ) (position number n m : ℕ)
+    → lineRefused k facts s program position number n ≡ suc m ↔ First (lineTests k facts s program position number n) (suc m)
 unfolding lineRefused
-line-exactly k s program position number n m = first-exactly (lineTests k s program position number n) m
+line-exactly k facts s program position number n m = first-exactly (lineTests k facts s program position number n) m
 
 -- two results that the contract of a call that writes at the front allows are the same
 pub line-determined : (refusal : ℕ) (line old new new′ : List ℕ) (r r′ : Answer) → Written refusal line old new r → Written refusal line old new′ r′
@@ -75,14 +78,18 @@ module _ (refusal : ℕ) (line old : List ℕ) where
       value zero = refl
       value (suc n) = refl
 
--- a word's text that is named into room enough is a piece at the front
-pub named-put : (word : ℕ) (old new : List ℕ) (r : Answer) → leastOut ≤ length old → Named word old new r → Put old 0 (textOfWord word) new (r .value)
-named-put word old new r h w =
-    rw (text-kept (decoded word) (length old) h) at
-    (written-put (nameRefused (length old) word) (textOfWord word) old new r (record { answered = w .answered; bytes = w .bytes })
-    (rw (text-kept (decoded word) (length old) h) (omega (arith, word-length word))))
+-- a word's text that is named into room enough, on a core with all facts, is a piece at the front
+pub named-put : (word : ℕ) (facts : Facts) (old new : List ℕ) (r : Answer) → facts ≡ allFacts → leastOut ≤ length old → Named word facts old new r
+    → Put old 0 (textOfWord word) new (r .value)
+named-put word facts old new r all h w =
+    rw kept at
+    (written-put (nameRefused (length old) word facts) (textOfWord word) old new r (record { answered = w .answered; bytes = w .bytes })
+    (rw kept (omega (arith, word-length word))))
   where
     text-kept : (d : Decoded) (n : ℕ) → leastOut ≤ n → unlessRefused (refused (outTest (ltb n leastOut) ∷ wordTests d)) (textOfDecoded d) [] ≡ textOfDecoded d
     text-kept Unknown n h = rw (le-ltb _ _ h)
     text-kept Undefined n h = rw (le-ltb _ _ h)
     text-kept (Word f) n h = rw (le-ltb _ _ h)
+
+    kept : unlessRefused (nameRefused (length old) word facts) (textOfWord word) [] ≡ textOfWord word
+    kept = rw (all, on-all word) (text-kept (decoded word) (length old) h)

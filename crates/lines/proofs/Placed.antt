@@ -19,7 +19,9 @@ use Rattle.programs.specs.declared.Next.{Next}
 use Rattle.programs.specs.Word.{wordAt, wordsOf, placeTests, wordFound, nextWord}
 use Rattle.programs.proofs.Words.{found-refused}
 use Rattle.programs.proofs.Reading.{word-exactly}
+use Rattle.facts.specs.declared.Facts.{Facts}
 use Rattle.words.specs.Decode.{decoded, numberOf, wordTests}
+use Rattle.cores.specs.Core.{decodedOn}
 use Rattle.words.specs.declared.Decoded.{Decoded}
 use Rattle.words.specs.declared.Fields.{Fields}
 use Rattle.words.specs.declared.Decoded.the-variants.{Unknown, Undefined, Word}
@@ -99,28 +101,28 @@ module _ (k : ℕ) (s : State) (program : List ℕ) (position n : ℕ) where
       rw (right .legal, eq-eqb _ _ (right .vectorSize), eq-eqb _ _ (right .predicateSize), whole, lt-leb _ _ below, le-ltb _ _ room)
 
   -- a line that is not refused
-  pub line-ready : (number : ℕ) → lineRefused k s program position number n ≡ 0 → Ready k s program position n
+  pub line-ready : (facts : Facts) (number : ℕ) → lineRefused k facts s program position number n ≡ 0 → Ready k s program position n
   unfolding lineRefused
-  line-ready number e =
-      ready (none-refused (placedTests k s program position n) tt (refused (onlyWhere (eqb number DONE) (wordTests (decoded (wordAt program position))))) e .0)
+  line-ready facts number e =
+      ready (none-refused (placedTests k s program position n) tt (refused (onlyWhere (eqb number DONE) (wordTests (decodedOn facts (wordAt program position))))) e .0)
 
-  module _ (number : ℕ) (placed : refused (placedTests k s program position n) ≡ 0) where
+  module _ (facts : Facts) (number : ℕ) (placed : refused (placedTests k s program position n) ≡ 0) where
     abbrev word : ℕ
     word = wordAt program position
 
     abbrev words : List Test
-    words = onlyWhere (eqb number DONE) (wordTests (decoded word))
+    words = onlyWhere (eqb number DONE) (wordTests (decodedOn facts word))
 
     -- of a refused step nothing else is tested
-    pub refused-passes : (number ≡ DONE → ⊥) → lineRefused k s program position number n ≡ DONE
+    pub refused-passes : (number ≡ DONE → ⊥) → lineRefused k facts s program position number n ≡ DONE
     unfolding lineRefused
     refused-passes h = first-after (placedTests k s program position n) (refused words) tt placed ∙ rw (ne-eqb number DONE h)
 
     -- of a step that is told done its word decides
-    pub word-decides : number ≡ DONE → (w : ℕ) (d : Decoded) → w ≡ word → d ≡ decoded w → lineRefused k s program position number n ≡ numberOf d
+    pub word-decides : number ≡ DONE → (w : ℕ) (d : Decoded) → w ≡ word → d ≡ decodedOn facts w → lineRefused k facts s program position number n ≡ numberOf d
     unfolding lineRefused
     word-decides e w d same is =
-        first-after (placedTests k s program position n) (refused words) tt placed ∙ rw e (own (decoded word) ∙ rw (← same, ← is))
+        first-after (placedTests k s program position n) (refused words) tt placed ∙ rw e (own (decodedOn facts word) ∙ rw (← same, ← is))
       where
         own : (d : Decoded) → refused (wordTests d) ≡ numberOf d
         own Unknown = refl
@@ -128,10 +130,10 @@ module _ (k : ℕ) (s : State) (program : List ℕ) (position n : ℕ) where
         own (Word f) = refl
 
   -- what a line is asked of refuses
-  pub early : (number r : ℕ) → r ≡ refused (placedTests k s program position n) → (r ≡ 0 → ⊥) → r ≡ lineRefused k s program position number n
+  pub early : (facts : Facts) (number r : ℕ) → r ≡ refused (placedTests k s program position n) → (r ≡ 0 → ⊥) → r ≡ lineRefused k facts s program position number n
   unfolding lineRefused
-  early number r e h =
-      refused-early (placedTests k s program position n) tt (refused (onlyWhere (eqb number DONE) (wordTests (decoded (wordAt program position))))) r e h
+  early facts number r e h =
+      refused-early (placedTests k s program position n) tt (refused (onlyWhere (eqb number DONE) (wordTests (decodedOn facts (wordAt program position))))) r e h
 
 -- the line of a refused step, and of an accepted one
 module _ (k : ℕ) (s : State) (program : List ℕ) (position number word : ℕ) (is : word ≡ wordAt program position) where

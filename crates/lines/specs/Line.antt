@@ -13,7 +13,9 @@ use Rattle.registers.specs.Register.{vectorOf}
 use Rattle.registers.specs.State.{State}
 use Rattle.programs.specs.Word.{wordAt, placeTests, wordFound}
 use Rattle.programs.specs.declared.Next.{Next}
+use Rattle.facts.specs.declared.Facts.{Facts}
 use Rattle.words.specs.Decode.{decoded, wordTests, fieldsOf}
+use Rattle.cores.specs.Core.{decodedOn}
 use Rattle.digits.specs.Digits.{digitsIn, decimal, decimalWidth}
 use Rattle.names.specs.Named.{textOfWord, mostText}
 
@@ -82,14 +84,14 @@ placedTests k s program position n =
 abbrev pub askedWord : ℕ → State → List ℕ → ℕ → ℕ → Next
 askedWord k s program position n = wordFound (refused (placedTests k s program position n)) (wordAt program position) position
 
--- the tests of a line: those, and of a step that is told done its word's
-abbrev pub lineTests : ℕ → State → List ℕ → ℕ → ℕ → ℕ → List Test
-lineTests k s program position number n =
-    placedTests k s program position n ++ onlyWhere (eqb number DONE) (wordTests (decoded (wordAt program position)))
+-- the tests of a line: those, and of a step that is told done its word's on the core
+abbrev pub lineTests : ℕ → Facts → State → List ℕ → ℕ → ℕ → ℕ → List Test
+lineTests k facts s program position number n =
+    placedTests k s program position n ++ onlyWhere (eqb number DONE) (wordTests (decodedOn facts (wordAt program position)))
 
 -- its refusal: LENGTH, FILE, PROGRAM, END, OUT, UNKNOWN, UNDEFINED or DONE
-unfoldable pub lineRefused : ℕ → State → List ℕ → ℕ → ℕ → ℕ → ℕ
-lineRefused k s program position number n = refused (lineTests k s program position number n)
+unfoldable pub lineRefused : ℕ → Facts → State → List ℕ → ℕ → ℕ → ℕ → ℕ
+lineRefused k facts s program position number n = refused (lineTests k facts s program position number n)
 
 -- the one test of the line of a session that is refused
 abbrev pub sessionLineTests : ℕ → List Test
@@ -101,9 +103,9 @@ pub record Written (refusal : ℕ) (line old new : List ℕ) (r : Answer) : Type
   pub bytes : new ≡ laid (unlessRefused refusal line []) old
 
 -- a step's line written
-abbrev pub LineWritten : ℕ → State → List ℕ → ℕ → ℕ → List ℕ → List ℕ → Answer → Type 0
-LineWritten k s program position number old new r =
-    Written (lineRefused k s program position number (length old)) (stepLine k s program position number) old new r
+abbrev pub LineWritten : ℕ → Facts → State → List ℕ → ℕ → ℕ → List ℕ → List ℕ → Answer → Type 0
+LineWritten k facts s program position number old new r =
+    Written (lineRefused k facts s program position number (length old)) (stepLine k s program position number) old new r
 
 -- the line of a refused session written
 abbrev pub SessionLineWritten : List ℕ → List ℕ → Answer → Type 0

@@ -1,4 +1,5 @@
 // One line of a walk, written at the front of what the caller lends.
+use facts::Facts;
 use machine::Answer;
 use machine::Length;
 use machine::refusal;
@@ -66,12 +67,12 @@ fn put_hex(out: &mut [u8], at: usize, bytes: &[u8]) -> usize
     next
 }
 
-// Writes a word's text from a place on, and a space; a word that is not accepted has no text.
+// Writes a word's text from a place on, and a space; it is that of every core, so a core with all facts is asked.
 fn put_text(out: &mut [u8], at: usize, word: u32) -> usize
     requires { ⌜ at + leastOut ≤ length (now out) ⌝ }
     ensures { λ r. ⌜ Put (now (out .entry)) at (withSpace (textOfWord word)) (now (out .exit)) r ⌝ }
 {
-    let end = at + names::text(word, &mut out[at..]).value as usize;
+    let end = at + names::text(word, facts::facts_of(facts::ALL), &mut out[at..]).value as usize;
     digits::put(out, end, b' ')
 }
 
@@ -156,17 +157,18 @@ fn done(length: usize) -> Answer
 }
 
 // Writes the line of the step at a position, which answered this number and left these files, at the front of the output, and
-// answers its length; bytes past it stay. Refused: LENGTH, FILE, PROGRAM, END, OUT, and UNKNOWN and UNDEFINED for a step told done.
+// answers its length; bytes past it stay. Refused: LENGTH, FILE, PROGRAM, END, OUT, and UNKNOWN and UNDEFINED for a step told done whose word the core does not accept.
 pub fn write_line(
     out: &mut [u8],
     k: usize,
+    facts: Facts,
     z: &[u8],
     p: &[u8],
     program: &[u8],
     position: usize,
     number: u64,
 ) -> Answer
-    ensures { λ r. ⌜ LineWritten k (state (now (z .entry)) (now (p .entry))) (now (program .entry)) position number (now (out .entry)) (now (out .exit)) r ⌝ }
+    ensures { λ r. ⌜ LineWritten k facts (state (now (z .entry)) (now (p .entry))) (now (program .entry)) position number (now (out .entry)) (now (out .exit)) r ⌝ }
 {
     let found = placed_word(k, z, p, program, position, out.len());
     if found.number != refusal::DONE {
@@ -175,7 +177,7 @@ pub fn write_line(
     if number != refusal::DONE as u64 {
         return done(put_refused(out, position, number as usize, found.word));
     }
-    match words::decode(found.word) {
+    match cores::decode(found.word, facts) {
         Decoded::Unknown => refuse(refusal::UNKNOWN),
         Decoded::Undefined => refuse(refusal::UNDEFINED),
         Decoded::Word(fields) => {

@@ -1,5 +1,6 @@
 -- `put_text` meets its contract: the text in the part from the place on, which holds the longest, then the space.
 -- Assumes nothing.
+use mathlib.Core.Path.{_∙_}
 use Prim.Native.Nat.{_+_, _-_, _≤_}
 use native.Mathlib.Nat.{le-refl}
 use native.Mathlib.Omega.{arith}
@@ -7,6 +8,7 @@ use denote.Ref.{now}
 use lib.ListN.{length}
 use borrow.Author.Needs.{needs}
 use borrow.Rule.Slice.PartMut.{putMid, mid-len}
+use Rattle.facts.proofs.Bytes.{all-of-byte}
 use Rattle.digits.specs.Put.{Put}
 use Rattle.digits.proofs.Puts.{put-then, put-length}
 use Rattle.names.specs.Named.{textOfWord}
@@ -20,17 +22,21 @@ use Rattle.lines.proofs.put_text.Tie as tie
 abbrev texted : tie.After-put-arg → tie.After-text
 texted c = c .before .before .before
 
--- the text is written at the place, and the space fits after it
-named : (c : tie.After-text) → let a = c .before .before .before .args in
-    let out = now (a .out) in
-    Put out (a .at) (textOfWord (a .word)) (putMid (a .at) (length out - a .at) out (c .text .last .1 .0)) (a .at + c .text .result .value)
-named c =
-    let a = c .before .before .before .args in
-    put-from (a .at) (now (a .out)) (omega arith) (omega (arith, word-length (a .word)))
-    (named-put (a .word) _ _ (c .text .result) (omega (arith, mid-len (a .at) (length (now (a .out))) (now (a .out)) (le-refl _))) (c .text .ensures))
+-- where the core with all facts is asked for
+abbrev asked : tie.After-text → tie.After-facts-of
+asked c = c .before .before
 
-short : (c : tie.After-text) → let a = c .before .before .before .args in a .at + c .text .result .value + 1 ≤ length (now (a .out))
-short c = omega (arith, named c .after, word-length (c .before .before .before .args .word))
+-- the text is written at the place, and the space fits after it
+named : (c : tie.After-text) → let a = asked c .before .before .args in
+    let out = now (a .out) in
+    Put out (a .at) (textOfWord (a .word)) (putMid (a .at) (length out - a .at) out (c .text .last .1 .1 .0)) (a .at + c .text .result .value)
+named c =
+    let a = asked c .before .before .args in
+    put-from (a .at) (now (a .out)) (omega arith) (omega (arith, word-length (a .word)))
+    (named-put (a .word) _ _ _ (c .text .result) (asked c .facts-of .ensures ∙ all-of-byte) (omega (arith, mid-len (a .at) (length (now (a .out))) (now (a .out)) (le-refl _))) (c .text .ensures))
+
+short : (c : tie.After-text) → let a = asked c .before .before .args in a .at + c .text .result .value + 1 ≤ length (now (a .out))
+short c = omega (arith, named c .after, word-length (asked c .before .before .args .word))
 
 put-requires : tie.Need-put-requires
 put-requires c κs = omega (arith, short (texted c), put-length (named (texted c)))
@@ -42,6 +48,7 @@ pub put-text-spec : {M : Type 1} → statement M
 put-text-spec =
     tie.close
     (tie.spec
+    (λ c κs. search needs)
     (λ c. search needs)
     (λ c. search needs)
     (λ c. search needs)

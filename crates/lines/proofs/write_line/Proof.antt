@@ -17,6 +17,7 @@ use Rattle.registers.specs.State.{State, state}
 use Rattle.words.specs.Decode.{decoded, numberOf}
 use Rattle.words.specs.declared.Decoded.the-variants.{Word}
 use Rattle.words.proofs.Encoding.{decoded-in-range}
+use Rattle.cores.proofs.Answers.{core-decodes}
 use Rattle.programs.specs.declared.Next.{Next}
 use Rattle.programs.specs.Word.{wordAt}
 use Rattle.lines.specs.Line.{placedTests, lineRefused, refusedLine, acceptedLine}
@@ -72,22 +73,22 @@ known c =
 
 -- of a step that is told done the word decides
 decides : (c : tie.After-decode) → let s = begin (passed c) in
-    lineRefused (s .args .k) (files s) (now (s .args .program)) (s .args .position) (s .args .number) (room s) ≡ numberOf (c .decode .result)
+    lineRefused (s .args .k) (s .args .facts) (files s) (now (s .args .program)) (s .args .position) (s .args .number) (room s) ≡ numberOf (c .decode .result)
 decides c =
     let s = begin (passed c) in
-    word-decides (s .args .k) (files s) (now (s .args .program)) (s .args .position) (room s) (s .args .number) (placed (passed c))
+    word-decides (s .args .k) (files s) (now (s .args .program)) (s .args .position) (room s) (s .args .facts) (s .args .number) (placed (passed c))
     (c .before .if2 .left) _ (c .decode .result) (is-word (passed c)) (c .decode .ensures)
 
 -- an accepted word's fields, and the register that is shown
 accepted : (c : tie.After-fields) → decoded (found (passed (fielded c)) .placed-word .result .word) ≡ Word (c .fields .given .0 .0)
-accepted c = sym (fielded c .decode .ensures) ∙ c .fields .given .1
+accepted c = core-decodes _ _ _ (sym (fielded c .decode .ensures) ∙ c .fields .given .1)
 
 returns : tie.Need-returns
 returns c =
     let s = start (c .before .before .before) in
     let found = c .before .before .before .placed-word in
     written-refused _ _ _ (c .refuse .result) (found .result .number) (c .refuse .ensures)
-    (early (s .args .k) (files s) (now (s .args .program)) (s .args .position) (room s) (s .args .number) _ (ap (λ (n : Next). n .number) (found .ensures)) (c .before .if1 .taken))
+    (early (s .args .k) (files s) (now (s .args .program)) (s .args .position) (room s) (s .args .facts) (s .args .number) _ (ap (λ (n : Next). n .number) (found .ensures)) (c .before .if1 .taken))
     (c .before .if1 .taken)
 
 put-refused-requires : tie.Need-put-refused-requires
@@ -101,7 +102,7 @@ returns-2 c =
     let word = found e .placed-word .result .word in
     let other = shown .before .before .if2 .taken in
     written-done _ _ _ (c .done .result) _ (refusedLine (s .args .position) (s .args .number) word) _ (c .done .ensures)
-    (refused-passes (s .args .k) (files s) (now (s .args .program)) (s .args .position) (room s) (s .args .number) (placed e) other)
+    (refused-passes (s .args .k) (files s) (now (s .args .program)) (s .args .position) (room s) (s .args .facts) (s .args .number) (placed e) other)
     (refused-line (s .args .k) (files s) (now (s .args .program)) (s .args .position) (s .args .number) word (is-word e) other)
     (le-trans (refused-most (s .args .position) (s .args .number) word) (known e .room))
     (shown .put-refused .ensures)
