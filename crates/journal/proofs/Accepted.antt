@@ -18,11 +18,14 @@ use Rattle.registers.specs.declared.Kind.the-variants.{Vector}
 use Rattle.registers.specs.State.{State, state, Sized}
 use Rattle.registers.proofs.Places.{in-files}
 use Rattle.programs.specs.Word.{wordsOf, endTests}
+use Rattle.facts.specs.declared.Facts.{Facts}
 use Rattle.words.specs.Decode.{decoded, numberOf, fieldsOf, wordTests}
 use Rattle.words.specs.declared.Fields.{Fields}
 use Rattle.words.specs.declared.Decoded.{Decoded}
 use Rattle.words.specs.declared.Decoded.the-variants.{Unknown, Undefined, Word}
 use Rattle.words.proofs.Encoding.{decoded-in-range}
+use Rattle.cores.specs.Core.{decodedOn}
+use Rattle.cores.proofs.Answers.{core-decodes}
 use Rattle.meaning.specs.Execute.{executed}
 use Rattle.meaning.specs.Needs.{Executable}
 use Rattle.entries.specs.Layout.{capacity, heldOf, positionOf, lastEntry, pushed, popped}
@@ -39,13 +42,13 @@ abbrev lateTests : ℕ → Decoded → List ℕ → List Test
 lateTests k word journal = wordTests word ++ fullTests k journal
 
 -- a refusal before the word is read is the step's; past it the word decides, and past the word the room for its entry
-module _ (k : ℕ) (s : State) (program journal : List ℕ) where
-  step-tests : stepRefused k s program journal ≡ first (startTests k s program journal) (refused (lateTests k (decoded (wordNow program journal)) journal))
+module _ (k : ℕ) (facts : Facts) (s : State) (program journal : List ℕ) where
+  step-tests : stepRefused k facts s program journal ≡ first (startTests k s program journal) (refused (lateTests k (decodedOn facts (wordNow program journal)) journal))
   unfolding stepRefused
   step-tests = refl
 
   -- a refused step leaves all as it stood
-  pub step-stood : (r : ℕ) → r ≡ stepRefused k s program journal → (r ≡ 0 → ⊥) → Stepped k s program journal r s journal
+  pub step-stood : (r : ℕ) → r ≡ stepRefused k facts s program journal → (r ≡ 0 → ⊥) → Stepped k facts s program journal r s journal
   unfolding stepState stepJournal
   step-stood r e h =
       record {
@@ -54,32 +57,37 @@ module _ (k : ℕ) (s : State) (program journal : List ℕ) where
         bytes = kept _ r (pushed k (entryFor k (fieldsNow program journal) s) journal) journal e h;
       }
 
-  pub start-refused : (r : ℕ) → r ≡ startRefused k s program journal → (r ≡ 0 → ⊥) → Stepped k s program journal r s journal
+  pub start-refused : (r : ℕ) → r ≡ startRefused k s program journal → (r ≡ 0 → ⊥) → Stepped k facts s program journal r s journal
   unfolding startRefused
   start-refused r e h =
-      step-stood r (refused-early (startTests k s program journal) tt (refused (lateTests k (decoded (wordNow program journal)) journal)) r e h ∙ sym step-tests) h
+      step-stood r (refused-early (startTests k s program journal) tt (refused (lateTests k (decodedOn facts (wordNow program journal)) journal)) r e h ∙ sym step-tests) h
 
-  pub word-decides : (word : Decoded) → startRefused k s program journal ≡ 0 → decoded (wordNow program journal) ≡ word
-      → stepRefused k s program journal ≡ refused (lateTests k word journal)
+  pub word-decides : (word : Decoded) → startRefused k s program journal ≡ 0 → decodedOn facts (wordNow program journal) ≡ word
+      → stepRefused k facts s program journal ≡ refused (lateTests k word journal)
   unfolding startRefused
   word-decides word e d =
       step-tests
-      ∙ refused-later (startTests k s program journal) tt (refused (lateTests k (decoded (wordNow program journal)) journal)) _ refl e
+      ∙ refused-later (startTests k s program journal) tt (refused (lateTests k (decodedOn facts (wordNow program journal)) journal)) _ refl e
       ∙ ap (λ (w : Decoded). refused (lateTests k w journal)) d
 
   -- what is left past an accepted word is what the step leaves
-  pub word-performed : (f : Fields) (r : ℕ) (after : State) (bytes : List ℕ) → startRefused k s program journal ≡ 0 → decoded (wordNow program journal) ≡ Word f
-      → Performed f k s journal r after bytes → Stepped k s program journal r after bytes
+  pub word-performed : (f : Fields) (r : ℕ) (after : State) (bytes : List ℕ) → startRefused k s program journal ≡ 0 → decodedOn facts (wordNow program journal) ≡ Word f
+      → Performed f k s journal r after bytes → Stepped k facts s program journal r after bytes
   unfolding stepState stepJournal
   word-performed f r after bytes e d done =
-      let n : stepRefused k s program journal ≡ refused (fullTests k journal) = word-decides (Word f) e d in
-      record { answered = done .answered ∙ sym n; files = rw (n, d) (done .files); bytes = rw (n, d) (done .bytes) }
+      let n : stepRefused k facts s program journal ≡ refused (fullTests k journal) = word-decides (Word f) e d in
+      let decodes = core-decodes facts (wordNow program journal) f d in
+      record { answered = done .answered ∙ sym n; files = rw (n, decodes) (done .files); bytes = rw (n, decodes) (done .bytes) }
 
 -- a word that is neither UNKNOWN nor UNDEFINED is its fields
 word-of : (x : Decoded) → eqb (numberOf x) UNKNOWN ≡ false → eqb (numberOf x) UNDEFINED ≡ false → x ≡ Word (fieldsOf x)
 word-of Unknown p q = cc
 word-of Undefined p q = cc
 word-of (Word f) p q = refl
+
+-- a word that the core accepts has the fields that it decodes to on any
+accepted-fields : (facts : Facts) (word : ℕ) → decodedOn facts word ≡ Word (fieldsOf (decodedOn facts word)) → decodedOn facts word ≡ Word (fieldsOf (decoded word))
+accepted-fields facts word e = e ∙ ap (λ (d : Decoded). Word (fieldsOf d)) (e ∙ sym (core-decodes facts word _ e))
 
 -- the words of a program are at most 256
 words-few : (n : ℕ) → isProgram n ≡ true → wordsOf n ≤ mostWords
@@ -112,27 +120,28 @@ pub executable : (k word : ℕ) (f : Fields) (s : State) → Sized k s → decod
 executable k word f s sized e = record { lent = sized; fields = decoded-in-range word f e }
 
 -- what is known of an accepted step, and what it leaves
-pub record AcceptedStep (k : ℕ) (s : State) (program journal : List ℕ) : Type 0 where
+pub record AcceptedStep (k : ℕ) (facts : Facts) (s : State) (program journal : List ℕ) : Type 0 where
   pub start : Started k s program journal
-  pub word : decoded (wordNow program journal) ≡ Word (fieldsNow program journal)
+  pub word : decodedOn facts (wordNow program journal) ≡ Word (fieldsNow program journal)
   pub room : heldOf journal < capacity k (length journal)
   pub executes : Executable (fieldsNow program journal) k s
-  pub files : stepState k s program journal ≡ executed (fieldsNow program journal) k s
-  pub bytes : stepJournal k s program journal ≡ pushed k (entryFor k (fieldsNow program journal) s) journal
+  pub files : stepState k facts s program journal ≡ executed (fieldsNow program journal) k s
+  pub bytes : stepJournal k facts s program journal ≡ pushed k (entryFor k (fieldsNow program journal) s) journal
 
-pub step-accepted : (k : ℕ) (s : State) (program journal : List ℕ) → stepRefused k s program journal ≡ 0 → AcceptedStep k s program journal
+pub step-accepted : (k : ℕ) (facts : Facts) (s : State) (program journal : List ℕ) → stepRefused k facts s program journal ≡ 0 → AcceptedStep k facts s program journal
 unfolding startRefused stepState stepJournal
-step-accepted k s program journal e =
-    let word = decoded (wordNow program journal) in
-    let none = none-refused (startTests k s program journal) tt (refused (lateTests k word journal)) (sym (step-tests k s program journal) ∙ e) in
+step-accepted k facts s program journal e =
+    let at = wordNow program journal in
+    let word = decodedOn facts at in
+    let none = none-refused (startTests k s program journal) tt (refused (lateTests k word journal)) (sym (step-tests k facts s program journal) ∙ e) in
     let late = first-none (lateTests k word journal) tt (none .1) in
     let begun = started k s program journal (none .0) in
-    let known = word-of word (late .0) (late .1 .0) in
+    let known = accepted-fields facts at (word-of word (late .0) (late .1 .0)) in
     record {
       start = begun;
       word = known;
       room = leb-false _ _ (late .1 .1 .0);
-      executes = executable k (wordNow program journal) (fieldsNow program journal) s (begun .sized) known;
+      executes = executable k at (fieldsNow program journal) s (begun .sized) (core-decodes facts at (fieldsNow program journal) known);
       files = rw e;
       bytes = rw e;
     }

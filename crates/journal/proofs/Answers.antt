@@ -10,14 +10,15 @@ use Rattle.machine.specs.Refusal.{First, inOrder}
 use Rattle.machine.specs.declared.Answer.{Answer}
 use Rattle.machine.proofs.Tests.{first-exactly, one-result}
 use Rattle.registers.specs.State.{State}
+use Rattle.facts.specs.declared.Facts.{Facts}
 use Rattle.journal.specs.Calls.{freshTests, stepTests, backTests, positionTests, freshRefused, freshAfter, stepRefused, stepState, stepJournal}
 use Rattle.journal.specs.Calls.{backRefused, backState, backJournal, positionRefused, positionAnswer, Freshened, Leaves, Stepped, Backed}
 
 pub fresh-in-order : (k : ℕ) (journal : List ℕ) → inOrder (freshTests k journal) ≡ true
 fresh-in-order k journal = refl
 
-pub step-in-order : (k : ℕ) (s : State) (program journal : List ℕ) → inOrder (stepTests k s program journal) ≡ true
-step-in-order k s program journal = refl
+pub step-in-order : (k : ℕ) (facts : Facts) (s : State) (program journal : List ℕ) → inOrder (stepTests k facts s program journal) ≡ true
+step-in-order k facts s program journal = refl
 
 pub back-in-order : (k : ℕ) (s : State) (journal : List ℕ) → inOrder (backTests k s journal) ≡ true
 back-in-order k s journal = refl
@@ -28,9 +29,9 @@ position-in-order k journal = refl
 pub fresh-exactly : (k n : ℕ) (journal : List ℕ) → freshRefused k journal ≡ suc n ↔ First (freshTests k journal) (suc n)
 fresh-exactly k n journal = first-exactly (freshTests k journal) n
 
-pub step-exactly : (k n : ℕ) (s : State) (program journal : List ℕ) → stepRefused k s program journal ≡ suc n ↔ First (stepTests k s program journal) (suc n)
+pub step-exactly : (k n : ℕ) (facts : Facts) (s : State) (program journal : List ℕ) → stepRefused k facts s program journal ≡ suc n ↔ First (stepTests k facts s program journal) (suc n)
 unfolding stepRefused
-step-exactly k n s program journal = first-exactly (stepTests k s program journal) n
+step-exactly k n facts s program journal = first-exactly (stepTests k facts s program journal) n
 
 pub back-exactly : (k n : ℕ) (s : State) (journal : List ℕ) → backRefused k s journal ≡ suc n ↔ First (backTests k s journal) (suc n)
 unfolding backRefused
@@ -50,11 +51,11 @@ leaves-determined : (number : ℕ) (s : State) (journal : List ℕ) (r q : ℕ) 
 leaves-determined number s journal r q a b i j x y =
     (one-result number r q (x .answered) (y .answered), one-result s a b (x .files) (y .files), one-result journal i j (x .bytes) (y .bytes))
 
-pub step-determined : (k : ℕ) (s : State) (program journal : List ℕ) (r q : ℕ) (a b : State) (i j : List ℕ)
-    → Stepped k s program journal r a i
-    → Stepped k s program journal q b j
+pub step-determined : (k : ℕ) (facts : Facts) (s : State) (program journal : List ℕ) (r q : ℕ) (a b : State) (i j : List ℕ)
+    → Stepped k facts s program journal r a i
+    → Stepped k facts s program journal q b j
     → (r ≡ q) × (a ≡ b) × (i ≡ j)
-step-determined k s program journal = leaves-determined (stepRefused k s program journal) (stepState k s program journal) (stepJournal k s program journal)
+step-determined k facts s program journal = leaves-determined (stepRefused k facts s program journal) (stepState k facts s program journal) (stepJournal k facts s program journal)
 
 pub back-determined : (k : ℕ) (s : State) (journal : List ℕ) (r q : ℕ) (a b : State) (i j : List ℕ) → Backed k s journal r a i → Backed k s journal q b j
     → (r ≡ q) × (a ≡ b) × (i ≡ j)

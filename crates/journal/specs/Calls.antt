@@ -9,7 +9,9 @@ use Rattle.machine.specs.declared.Answer.{Answer}
 use Rattle.registers.specs.declared.Kind.the-variants.{Vector}
 use Rattle.registers.specs.State.{State, read, write}
 use Rattle.programs.specs.Word.{wordAt, endTests}
+use Rattle.facts.specs.declared.Facts.{Facts}
 use Rattle.words.specs.Decode.{decoded, fieldsOf, wordTests}
+use Rattle.cores.specs.Core.{decodedOn}
 use Rattle.words.specs.declared.Fields.{Fields}
 use Rattle.meaning.specs.Execute.{executed}
 use Rattle.entries.specs.Tests.{roomTests, journalTests}
@@ -34,7 +36,7 @@ wordNow program journal = wordAt program (positionOf journal)
 abbrev pub fieldsNow : List ℕ → List ℕ → Fields
 fieldsNow program journal = fieldsOf (decoded (wordNow program journal))
 
--- the tests of a step before its word is read, and all of them
+-- the tests of a step before its word is read, and all of them: the word is accepted or refused as the core takes it
 abbrev pub startTests : ℕ → State → List ℕ → List ℕ → List Test
 startTests k s program journal =
     filesTests k (length (s .z)) (length (s .p))
@@ -42,8 +44,8 @@ startTests k s program journal =
     ++ journalTests k journal
     ++ endTests (length program) (positionOf journal)
 
-abbrev pub stepTests : ℕ → State → List ℕ → List ℕ → List Test
-stepTests k s program journal = startTests k s program journal ++ wordTests (decoded (wordNow program journal)) ++ fullTests k journal
+abbrev pub stepTests : ℕ → Facts → State → List ℕ → List ℕ → List Test
+stepTests k facts s program journal = startTests k s program journal ++ wordTests (decodedOn facts (wordNow program journal)) ++ fullTests k journal
 
 -- the tests of back
 abbrev pub backTests : ℕ → State → List ℕ → List Test
@@ -60,8 +62,8 @@ freshRefused k journal = refused (freshTests k journal)
 unfoldable pub startRefused : ℕ → State → List ℕ → List ℕ → ℕ
 startRefused k s program journal = refused (startTests k s program journal)
 
-unfoldable pub stepRefused : ℕ → State → List ℕ → List ℕ → ℕ
-stepRefused k s program journal = refused (stepTests k s program journal)
+unfoldable pub stepRefused : ℕ → Facts → State → List ℕ → List ℕ → ℕ
+stepRefused k facts s program journal = refused (stepTests k facts s program journal)
 
 unfoldable pub backRefused : ℕ → State → List ℕ → ℕ
 backRefused k s journal = refused (backTests k s journal)
@@ -85,12 +87,12 @@ restored k e s = write k Vector (e .number) (e .old) s
 abbrev pub freshAfter : ℕ → List ℕ → List ℕ
 freshAfter k journal = unlessRefused (freshRefused k journal) (freshJournal k (length journal)) journal
 
-unfoldable pub stepState : ℕ → State → List ℕ → List ℕ → State
-stepState k s program journal = unlessRefused (stepRefused k s program journal) (executed (fieldsNow program journal) k s) s
+unfoldable pub stepState : ℕ → Facts → State → List ℕ → List ℕ → State
+stepState k facts s program journal = unlessRefused (stepRefused k facts s program journal) (executed (fieldsNow program journal) k s) s
 
-unfoldable pub stepJournal : ℕ → State → List ℕ → List ℕ → List ℕ
-stepJournal k s program journal =
-    unlessRefused (stepRefused k s program journal) (pushed k (entryFor k (fieldsNow program journal) s) journal) journal
+unfoldable pub stepJournal : ℕ → Facts → State → List ℕ → List ℕ → List ℕ
+stepJournal k facts s program journal =
+    unlessRefused (stepRefused k facts s program journal) (pushed k (entryFor k (fieldsNow program journal) s) journal) journal
 
 unfoldable pub backState : ℕ → State → List ℕ → State
 backState k s journal = unlessRefused (backRefused k s journal) (restored k (lastEntry k journal) s) s
@@ -110,8 +112,8 @@ pub record Leaves (number : ℕ) (s : State) (entries : List ℕ) (r : ℕ) (aft
   pub bytes : journal ≡ entries
 
 -- of a step, of back, and of a step past its word, which only the room for its entry refuses
-abbrev pub Stepped : ℕ → State → List ℕ → List ℕ → ℕ → State → List ℕ → Type 0
-Stepped k s program journal = Leaves (stepRefused k s program journal) (stepState k s program journal) (stepJournal k s program journal)
+abbrev pub Stepped : ℕ → Facts → State → List ℕ → List ℕ → ℕ → State → List ℕ → Type 0
+Stepped k facts s program journal = Leaves (stepRefused k facts s program journal) (stepState k facts s program journal) (stepJournal k facts s program journal)
 
 abbrev pub Backed : ℕ → State → List ℕ → ℕ → State → List ℕ → Type 0
 Backed k s journal = Leaves (backRefused k s journal) (backState k s journal) (backJournal k s journal)

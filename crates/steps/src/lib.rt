@@ -2,6 +2,7 @@
 ghost use Rattle.registers.specs.State.{state};
 ghost use Rattle.journal.specs.Calls.{Stepped, Backed, Performed, CarriedOut};
 ghost use Rattle.journal.specs.Needs.{Ready, CarryOut};
+use facts::Facts;
 use machine::refusal;
 use words::Decoded;
 use words::Fields;
@@ -27,9 +28,16 @@ fn perform(k: usize, z: &mut [u8], p: &[u8], journal: &mut [u8], f: Fields) -> u
     refusal::DONE
 }
 
-// Executes the word at the position, appends its entry and raises the count; or a refusal, and all as it stood.
-pub fn step(k: usize, z: &mut [u8], p: &[u8], program: &[u8], journal: &mut [u8]) -> u8
-    ensures { λ r. ⌜ Stepped k (state (now (z .entry)) (now (p .entry))) (now (program .entry)) (now (journal .entry)) r
+// Executes the word at the position on a core with these facts, appends its entry and raises the count; or a refusal, and all as it stood.
+pub fn step(
+    k: usize,
+    facts: Facts,
+    z: &mut [u8],
+    p: &[u8],
+    program: &[u8],
+    journal: &mut [u8],
+) -> u8
+    ensures { λ r. ⌜ Stepped k facts (state (now (z .entry)) (now (p .entry))) (now (program .entry)) (now (journal .entry)) r
         (state (now (z .exit)) (now (p .entry)))
         (now (journal .exit)) ⌝ }
 {
@@ -37,7 +45,10 @@ pub fn step(k: usize, z: &mut [u8], p: &[u8], program: &[u8], journal: &mut [u8]
     if start != refusal::DONE {
         return start;
     }
-    let decoded = words::decode(programs::word_at(program, entries::position_of(journal)));
+    let decoded = cores::decode(
+        programs::word_at(program, entries::position_of(journal)),
+        facts,
+    );
     match decoded {
         Decoded::Unknown => refusal::UNKNOWN,
         Decoded::Undefined => refusal::UNDEFINED,

@@ -12,6 +12,7 @@ use Rattle.parts.proofs.Parts.{length-part, getD-outside}
 use Rattle.machine.specs.Size.{vectorBytes}
 use Rattle.registers.specs.declared.Kind.the-variants.{Vector}
 use Rattle.registers.specs.Register.{registerAt, InFile}
+use Rattle.facts.specs.declared.Facts.{Facts}
 use Rattle.registers.specs.State.{State}
 use Rattle.registers.proofs.Places.{register-inside, length-with-register}
 use Rattle.meaning.specs.Execute.{destinationAfter}
@@ -49,17 +50,17 @@ kept-written k i n new s journal e register sized inside entry =
     }
 
 -- a step changes its destination's bytes, the next entry and the count
-pub step-frame : (k : ℕ) (s : State) (program journal : List ℕ)
-    → Kept k (fieldsNow program journal .d) (heldOf journal) s journal (stepState k s program journal) (stepJournal k s program journal)
-step-frame k s program journal = go (stepRefused k s program journal) refl
+pub step-frame : (k : ℕ) (facts : Facts) (s : State) (program journal : List ℕ)
+    → Kept k (fieldsNow program journal .d) (heldOf journal) s journal (stepState k facts s program journal) (stepJournal k facts s program journal)
+step-frame k facts s program journal = go (stepRefused k facts s program journal) refl
   where
-    go : (r : ℕ) → stepRefused k s program journal ≡ r
-        → Kept k (fieldsNow program journal .d) (heldOf journal) s journal (stepState k s program journal) (stepJournal k s program journal)
+    go : (r : ℕ) → stepRefused k facts s program journal ≡ r
+        → Kept k (fieldsNow program journal .d) (heldOf journal) s journal (stepState k facts s program journal) (stepJournal k facts s program journal)
     go zero e =
-        let a = step-accepted k s program journal e in
+        let a = step-accepted k facts s program journal e in
         let f = fieldsNow program journal in
         let entry = entryFor k f s in
-        let room = step-room k s program journal a in
+        let room = step-room k facts s program journal a in
         rw (a .files, a .bytes)
         (kept-written k (heldOf journal) (heldOf journal + 1) (record { number = f .d; old = destinationAfter f k s }) s journal (encodedEntry entry)
         (destination f k s (a .executes))
@@ -67,7 +68,7 @@ step-frame k s program journal = go (stepRefused k s program journal) refl
         (entry-room k entry journal room)
         (entry-size k entry journal room))
     go (suc r) e =
-        let stood = step-stood k s program journal (suc r) (sym e) (λ (h : suc r ≡ 0). omega arith) in
+        let stood = step-stood k facts s program journal (suc r) (sym e) (λ (h : suc r ≡ 0). omega arith) in
         kept-same k (fieldsNow program journal .d) (heldOf journal) s _ journal _ (stood .files) (stood .bytes)
 
 -- a step back changes the bytes of the register that the last entry names, that entry and the count

@@ -10,6 +10,7 @@ use lib.ListN.{length, replicate, length-replicate}
 use Rattle.machine.specs.Size.{isLegal}
 use Rattle.machine.specs.Refusal.{DONE, lengthTests, refused}
 use Rattle.machine.proofs.Tests.{none-refused}
+use Rattle.facts.specs.declared.Facts.{Facts}
 use Rattle.registers.specs.State.{State}
 use Rattle.entries.specs.Layout.{entryBytes, entryAt, heldOf, positionOf, entryIn, firstEntries, areNamed, freshJournal, pushed, popped}
 use Rattle.entries.specs.Tests.{roomTests}
@@ -39,12 +40,12 @@ position-of-fresh k journal r after made done =
     (told k 0 (freshJournal k (length journal)) (length-legal k _ refl (none .0)) (formed-none k (length journal) room) (held-closed k (length journal) _ tt (omega arith)))
 
 -- an accepted step is one on
-pub position-of-step : (k : ℕ) (s : State) (program journal : List ℕ) (r : ℕ) (after : State) (later : List ℕ) → Stepped k s program journal r after later → r ≡ DONE
+pub position-of-step : (k : ℕ) (facts : Facts) (s : State) (program journal : List ℕ) (r : ℕ) (after : State) (later : List ℕ) → Stepped k facts s program journal r after later → r ≡ DONE
     → OneOn k journal later
-position-of-step k s program journal r after later made done =
-    let a = step-accepted k s program journal (sym (made .answered) ∙ done) in
+position-of-step k facts s program journal r after later made done =
+    let a = step-accepted k facts s program journal (sym (made .answered) ∙ done) in
     let entry = entryFor k (fieldsNow program journal) s in
-    let room = step-room k s program journal a in
+    let room = step-room k facts s program journal a in
     let formed = formed-pushed k entry journal room (a .start .formed) (omega (arith, a .executes .fields .d)) in
     let legal = a .start .sized .legal in
     rw (made .bytes ∙ a .bytes)
@@ -104,13 +105,13 @@ position-of-back k s journal r after former made done =
     })
 
 -- after any steps from a fresh start it is as many as the accepted steps forward exceed those back
-pub position-of-travel : (k : ℕ) (s : State) (program journal directions : List ℕ) (after : State) (later : List ℕ) (made : Travelled)
-    → Made k s program journal directions after later made
+pub position-of-travel : (k : ℕ) (facts : Facts) (s : State) (program journal directions : List ℕ) (after : State) (later : List ℕ) (made : Travelled)
+    → Made k facts s program journal directions after later made
     → FreshStart k s journal
     → PositionIs k later (made .forward - made .back)
-position-of-travel k s program journal directions after later made all fresh =
+position-of-travel k facts s program journal directions after later made all fresh =
     let w = all .walked fresh .walked in
     let n = made .forward - made .back in
     rw (w .entries)
-    (told k n _ (fresh .sized .legal) (formed-walked k (length journal) program s (fresh .sized) (fresh .room) n (w .walkable))
-    (held k (length journal) program s (fresh .sized) (fresh .room) n (w .walkable)))
+    (told k n _ (fresh .sized .legal) (formed-walked k facts (length journal) program s (fresh .sized) (fresh .room) n (w .walkable))
+    (held k facts (length journal) program s (fresh .sized) (fresh .room) n (w .walkable)))

@@ -13,6 +13,7 @@ use Rattle.machine.specs.Size.{vectorBytes}
 use Rattle.machine.specs.Refusal.{DONE}
 use Rattle.registers.specs.declared.Kind.the-variants.{Vector}
 use Rattle.registers.specs.Register.{registerAt, vectorOf, InFile}
+use Rattle.facts.specs.declared.Facts.{Facts}
 use Rattle.registers.specs.State.{State, state, Sized}
 use Rattle.registers.proofs.Places.{in-files, register-inside, length-register, length-with-register}
 use Rattle.words.specs.declared.Fields.{Fields}
@@ -51,8 +52,8 @@ module _ (f : Fields) (k : ℕ) (s : State) (x : Executable f k s) where
       ∙ with-same (registerAt k Vector (f .d)) (vectorBytes k) (s .z))
 
 -- an accepted step has room for its entry
-pub step-room : (k : ℕ) (s : State) (program journal : List ℕ) → AcceptedStep k s program journal → Room k (entryFor k (fieldsNow program journal) s) journal
-step-room k s program journal a =
+pub step-room : (k : ℕ) (facts : Facts) (s : State) (program journal : List ℕ) → AcceptedStep k facts s program journal → Room k (entryFor k (fieldsNow program journal) s) journal
+step-room k facts s program journal a =
     record {
       least = a .start .formed .least;
       room = a .room;
@@ -60,13 +61,13 @@ step-room k s program journal a =
       whole = old-whole (fieldsNow program journal) k s (a .executes);
     }
 
-pub back-after-step : (k : ℕ) (s : State) (program journal : List ℕ) → stepRefused k s program journal ≡ 0
-    → Former k s journal (stepState k s program journal) (stepJournal k s program journal)
-back-after-step k s program journal e =
-    let a = step-accepted k s program journal e in
+pub back-after-step : (k : ℕ) (facts : Facts) (s : State) (program journal : List ℕ) → stepRefused k facts s program journal ≡ 0
+    → Former k s journal (stepState k facts s program journal) (stepJournal k facts s program journal)
+back-after-step k facts s program journal e =
+    let a = step-accepted k facts s program journal e in
     let f = fieldsNow program journal in
     let entry = entryFor k f s in
-    let room = step-room k s program journal a in
+    let room = step-room k facts s program journal a in
     let later = executed f k s in
     let bytes = pushed k entry journal in
     let done : backRefused k later bytes ≡ 0 =
@@ -84,11 +85,11 @@ back-after-step k s program journal e =
     })
 
 -- the room that back gives up is used again: from what an accepted step left, back and then the step again leave that state and that journal
-pub step-after-back : (k : ℕ) (s : State) (program journal : List ℕ) → stepRefused k s program journal ≡ 0 → AreBytes journal
+pub step-after-back : (k : ℕ) (facts : Facts) (s : State) (program journal : List ℕ) → stepRefused k facts s program journal ≡ 0 → AreBytes journal
     → part (entryAt k journal (heldOf journal)) (entryBytes k) journal ≡ replicate (entryBytes k) 0
-    → let later = stepState k s program journal in
-    let later-journal = stepJournal k s program journal in
-    Stepped k (backState k later later-journal) program (backJournal k later later-journal) DONE later later-journal
-step-after-back k s program journal e all empty =
-    let former = back-after-step k s program journal e in
+    → let later = stepState k facts s program journal in
+    let later-journal = stepJournal k facts s program journal in
+    Stepped k facts (backState k later later-journal) program (backJournal k later later-journal) DONE later later-journal
+step-after-back k facts s program journal e all empty =
+    let former = back-after-step k facts s program journal e in
     rw (former .files, former .bytes all empty) (record { answered = sym e; files = refl; bytes = refl })

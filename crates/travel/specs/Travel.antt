@@ -1,4 +1,4 @@
--- Steps forward and back over the same buffers, and what is left of them.
+-- Steps forward and back over the same buffers, all on one core, and what is left of them.
 use Prim.Native.Nat.{ℕ, zero, suc, _+_, _-_, _≤_, _<_}
 use mathlib.Core.Path.{_≡_}
 use mathlib.Core.Bool.{true}
@@ -6,6 +6,7 @@ use mathlib.Core.List.{List, [], _∷_}
 use lib.ListN.{length}
 use Rattle.machine.specs.Refusal.{DONE, unlessRefused}
 use Rattle.registers.specs.State.{State, Sized}
+use Rattle.facts.specs.declared.Facts.{Facts}
 use Rattle.entries.specs.Layout.{isRoom, journalOf, freshJournal}
 use Rattle.journal.specs.Calls.{stepRefused, stepState, stepJournal, backRefused, backState, backJournal, positionAnswer, Leaves}
 use Rattle.travel.specs.declared.Travelled.{Travelled}
@@ -17,18 +18,18 @@ directed zero back forward = back
 directed (suc direction) back forward = forward
 
 -- a step in a direction: its refusal, and the state and the journal that it leaves
-abbrev pub goRefused : ℕ → State → List ℕ → List ℕ → ℕ → ℕ
-goRefused k s program journal direction = directed direction (backRefused k s journal) (stepRefused k s program journal)
+abbrev pub goRefused : ℕ → Facts → State → List ℕ → List ℕ → ℕ → ℕ
+goRefused k facts s program journal direction = directed direction (backRefused k s journal) (stepRefused k facts s program journal)
 
-abbrev pub goState : ℕ → State → List ℕ → List ℕ → ℕ → State
-goState k s program journal direction = directed direction (backState k s journal) (stepState k s program journal)
+abbrev pub goState : ℕ → Facts → State → List ℕ → List ℕ → ℕ → State
+goState k facts s program journal direction = directed direction (backState k s journal) (stepState k facts s program journal)
 
-abbrev pub goJournal : ℕ → State → List ℕ → List ℕ → ℕ → List ℕ
-goJournal k s program journal direction = directed direction (backJournal k s journal) (stepJournal k s program journal)
+abbrev pub goJournal : ℕ → Facts → State → List ℕ → List ℕ → ℕ → List ℕ
+goJournal k facts s program journal direction = directed direction (backJournal k s journal) (stepJournal k facts s program journal)
 
-abbrev pub Gone : ℕ → State → List ℕ → List ℕ → ℕ → ℕ → State → List ℕ → Type 0
-Gone k s program journal direction =
-    Leaves (goRefused k s program journal direction) (goState k s program journal direction) (goJournal k s program journal direction)
+abbrev pub Gone : ℕ → Facts → State → List ℕ → List ℕ → ℕ → ℕ → State → List ℕ → Type 0
+Gone k facts s program journal direction =
+    Leaves (goRefused k facts s program journal direction) (goState k facts s program journal direction) (goJournal k facts s program journal direction)
 
 -- the steps counted, with one more in a direction unless it was refused
 abbrev pub countedFor : ℕ → ℕ → Travelled → Travelled
@@ -58,15 +59,15 @@ abbrev pub starting : State → List ℕ → Trip
 starting s journal = tripOf s journal (record { forward = 0; back = 0 })
 
 -- a step more
-abbrev pub onward : ℕ → List ℕ → ℕ → Trip → Trip
-onward k program direction t =
-    tripOf (goState k (t .files) program (t .journal) direction) (goJournal k (t .files) program (t .journal) direction)
-    (countedFor direction (goRefused k (t .files) program (t .journal) direction) (t .made))
+abbrev pub onward : ℕ → Facts → List ℕ → ℕ → Trip → Trip
+onward k facts program direction t =
+    tripOf (goState k facts (t .files) program (t .journal) direction) (goJournal k facts (t .files) program (t .journal) direction)
+    (countedFor direction (goRefused k facts (t .files) program (t .journal) direction) (t .made))
 
--- some steps, one after the other
-unfoldable pub travelled : ℕ → List ℕ → List ℕ → Trip → Trip
-travelled k program [] t = t
-travelled k program (direction ∷ directions) t = travelled k program directions (onward k program direction t)
+-- some steps, one after the other: the facts stay from each to the next
+unfoldable pub travelled : ℕ → Facts → List ℕ → List ℕ → Trip → Trip
+travelled k facts program [] t = t
+travelled k facts program (direction ∷ directions) t = travelled k facts program directions (onward k facts program direction t)
 
 -- files of a legal length, and a fresh journal of a legal size
 pub record FreshStart (k : ℕ) (s : State) (journal : List ℕ) : Type 0 where
@@ -75,20 +76,20 @@ pub record FreshStart (k : ℕ) (s : State) (journal : List ℕ) : Type 0 where
   pub fresh : journal ≡ freshJournal k (length journal)
 
 -- what the plain walk of n words leaves: the registers after them, and a journal of their entries; and the words can be walked
-pub record AsWalked (k : ℕ) (s : State) (program : List ℕ) (bytes n : ℕ) (after : State) (journal : List ℕ) : Type 0 where
+pub record AsWalked (k : ℕ) (facts : Facts) (s : State) (program : List ℕ) (bytes n : ℕ) (after : State) (journal : List ℕ) : Type 0 where
   pub files : after ≡ walkedState k program n s
   pub entries : journal ≡ journalOf k bytes (walkedEntries k program n s)
-  pub walkable : Walkable k bytes n program
+  pub walkable : Walkable k facts bytes n program
 
 -- a trip that is as many words on as its steps forward exceed those back, and has what the plain walk leaves there
-pub record Ahead (k : ℕ) (s : State) (program : List ℕ) (bytes : ℕ) (t : Trip) : Type 0 where
+pub record Ahead (k : ℕ) (facts : Facts) (s : State) (program : List ℕ) (bytes : ℕ) (t : Trip) : Type 0 where
   pub ahead : t .made .back ≤ t .made .forward
-  pub walked : AsWalked k s program bytes (t .made .forward - t .made .back) (t .files) (t .journal)
+  pub walked : AsWalked k facts s program bytes (t .made .forward - t .made .back) (t .files) (t .journal)
 
 -- what travel leaves, and how many steps were accepted: that of the steps one after the other; and from a fresh start that of the plain walk
-pub record Made (k : ℕ) (s : State) (program journal directions : List ℕ) (after : State) (journal-after : List ℕ) (made : Travelled) : Type 0 where
-  pub all : tripOf after journal-after made ≡ travelled k program directions (starting s journal)
-  pub walked : FreshStart k s journal → Ahead k s program (length journal) (tripOf after journal-after made)
+pub record Made (k : ℕ) (facts : Facts) (s : State) (program journal directions : List ℕ) (after : State) (journal-after : List ℕ) (made : Travelled) : Type 0 where
+  pub all : tripOf after journal-after made ≡ travelled k facts program directions (starting s journal)
+  pub walked : FreshStart k s journal → Ahead k facts s program (length journal) (tripOf after journal-after made)
 
 -- the call for a journal's position answers n
 abbrev pub PositionIs : ℕ → List ℕ → ℕ → Type 0

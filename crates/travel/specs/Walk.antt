@@ -6,7 +6,9 @@ use lib.ListN.{length}
 use Rattle.machine.specs.Size.{mostWords}
 use Rattle.registers.specs.State.{State}
 use Rattle.programs.specs.Word.{wordAt, wordsOf}
+use Rattle.facts.specs.declared.Facts.{Facts}
 use Rattle.words.specs.Decode.{decoded, fieldsOf}
+use Rattle.cores.specs.Core.{decodedOn}
 use Rattle.words.specs.declared.Fields.{Fields}
 use Rattle.words.specs.declared.Decoded.the-variants.{Word}
 use Rattle.meaning.specs.Execute.{executed}
@@ -27,10 +29,10 @@ unfoldable pub walkedEntries : ℕ → List ℕ → ℕ → State → List Entry
 walkedEntries k program zero s = []
 walkedEntries k program (suc n) s = walkedEntries k program n s ++ entryFor k (fieldsIn program n) (walkedState k program n s) ∷ []
 
--- n words that can be walked: the program has them, no more than it may have, their entries fit into a journal of so many bytes, and each is
--- accepted
-pub record Walkable (k bytes n : ℕ) (program : List ℕ) : Type 0 where
+-- n words that can be walked on a core: the program has them, no more than it may have, their entries fit into a journal of so many bytes,
+-- and the core accepts each
+pub record Walkable (k : ℕ) (facts : Facts) (bytes n : ℕ) (program : List ℕ) : Type 0 where
   pub inside : n ≤ wordsOf (length program)
   pub few : n ≤ mostWords
   pub fits : n ≤ capacity k bytes
-  pub accepted : (i : ℕ) → i < n → decoded (wordAt program i) ≡ Word (fieldsIn program i)
+  pub accepted : (i : ℕ) → i < n → decodedOn facts (wordAt program i) ≡ Word (fieldsIn program i)

@@ -1,8 +1,9 @@
-// Travel over the same buffers: steps forward and back, one after the other.
+// Travel over the same buffers: steps forward and back, one after the other, all on one core.
 ghost use mathlib.Core.Path.{_≡_};
 ghost use Prim.Native.Nat.{_^_};
 ghost use Rattle.registers.specs.State.{state};
 ghost use Rattle.travel.specs.Travel.{countedFor, Gone, Countable, Made};
+use facts::Facts;
 use machine::refusal;
 
 // How many steps of each kind were accepted.
@@ -15,15 +16,23 @@ pub struct Travelled {
 pub const BACK: u8 = 0;
 
 // Takes a step by its direction.
-fn go(k: usize, z: &mut [u8], p: &[u8], program: &[u8], journal: &mut [u8], direction: u8) -> u8
-    ensures { λ r. ⌜ Gone k (state (now (z .entry)) (now (p .entry))) (now (program .entry)) (now (journal .entry)) direction r
+fn go(
+    k: usize,
+    facts: Facts,
+    z: &mut [u8],
+    p: &[u8],
+    program: &[u8],
+    journal: &mut [u8],
+    direction: u8,
+) -> u8
+    ensures { λ r. ⌜ Gone k facts (state (now (z .entry)) (now (p .entry))) (now (program .entry)) (now (journal .entry)) direction r
         (state (now (z .exit)) (now (p .entry)))
         (now (journal .exit)) ⌝ }
 {
     if direction == BACK {
         return steps::back(k, z, p, journal);
     }
-    steps::step(k, z, p, program, journal)
+    steps::step(k, facts, z, p, program, journal)
 }
 
 // Counts a step that was accepted.
@@ -49,13 +58,14 @@ fn counted(made: Travelled, direction: u8, number: u8) -> Travelled
 // Takes steps, one after the other, and answers how many of each kind were accepted.
 pub fn travel(
     k: usize,
+    facts: Facts,
     z: &mut [u8],
     p: &[u8],
     program: &[u8],
     journal: &mut [u8],
     directions: &[u8],
 ) -> Travelled
-    ensures { λ r. ⌜ Made k (state (now (z .entry)) (now (p .entry))) (now (program .entry)) (now (journal .entry)) (now (directions .entry))
+    ensures { λ r. ⌜ Made k facts (state (now (z .entry)) (now (p .entry))) (now (program .entry)) (now (journal .entry)) (now (directions .entry))
         (state (now (z .exit)) (now (p .entry)))
         (now (journal .exit))
         r ⌝ }
@@ -67,7 +77,7 @@ pub fn travel(
     let mut i = 0;
     while i < directions.len() {
         let direction = directions[i];
-        let number = go(k, z, p, program, journal, direction);
+        let number = go(k, facts, z, p, program, journal, direction);
         made = counted(made, direction, number);
         i += 1;
     }

@@ -7,7 +7,8 @@ use denote.Ref.{now}
 use Rattle.machine.specs.Refusal.{UNKNOWN, UNDEFINED}
 use Rattle.registers.specs.State.{State, state}
 use Rattle.programs.specs.Word.{wordAt}
-use Rattle.words.specs.Decode.{decoded}
+use Rattle.cores.specs.Core.{decodedOn}
+use Rattle.cores.proofs.Answers.{core-decodes}
 use Rattle.words.specs.declared.Decoded.the-variants.{Unknown, Undefined}
 use Rattle.journal.specs.Calls.{wordNow, startRefused}
 use Rattle.journal.proofs.Accepted.{Started, started, start-refused, word-decides, word-performed, step-stood, executable}
@@ -42,16 +43,16 @@ known c =
     let s = start (c .before) in started (s .args .k) (lent s) (now (s .args .program)) (now (s .args .journal)) (begun c)
 
 -- the word at the position is decoded
-word : (c : tie.After-decode) → let a = first c .args in decoded (wordNow (now (a .program)) (now (a .journal))) ≡ c .decode .result
+word : (c : tie.After-decode) → let a = first c .args in decodedOn (a .facts) (wordNow (now (a .program)) (now (a .journal))) ≡ c .decode .result
 word c =
     sym
     (c .decode .ensures
-    ∙ ap decoded (c .before .word-at .ensures ∙ ap (wordAt (now (first c .args .program))) (c .before .before .position-of .ensures)))
+    ∙ ap (decodedOn (first c .args .facts)) (c .before .word-at .ensures ∙ ap (wordAt (now (first c .args .program))) (c .before .before .position-of .ensures)))
 
 returns : tie.Need-returns
 returns c =
     let s = start (c .before) in
-    start-refused (s .args .k) (lent s) (now (s .args .program)) (now (s .args .journal)) _ (c .before .check-step .ensures) (c .if1 .taken)
+    start-refused (s .args .k) (s .args .facts) (lent s) (now (s .args .program)) (now (s .args .journal)) _ (c .before .check-step .ensures) (c .if1 .taken)
 
 position-of-requires : tie.Need-position-of-requires
 position-of-requires c κs = known (c .before) .formed .least
@@ -66,7 +67,8 @@ perform-requires c κs =
     let s = first d in
     let k = known (passed d) in
     record {
-      word = executable (s .args .k) (wordNow (now (s .args .program)) (now (s .args .journal))) (f .decoded .given .0 .0) (lent s) (k .sized) (word d ∙ f .decoded .given .1);
+      word = executable (s .args .k) (wordNow (now (s .args .program)) (now (s .args .journal))) (f .decoded .given .0 .0) (lent s) (k .sized)
+          (core-decodes (s .args .facts) _ _ (word d ∙ f .decoded .given .1));
       header = k .formed .least;
       few = k .few;
     }
@@ -75,16 +77,16 @@ returns-2 : tie.Need-returns-2
 returns-2 c =
     let d = c .before .before in
     let s = first d in
-    step-stood (s .args .k) (lent s) (now (s .args .program)) (now (s .args .journal)) UNKNOWN
-    (sym (word-decides (s .args .k) (lent s) (now (s .args .program)) (now (s .args .journal)) Unknown (begun (passed d)) (word d ∙ c .enum-told .given .1)))
+    step-stood (s .args .k) (s .args .facts) (lent s) (now (s .args .program)) (now (s .args .journal)) UNKNOWN
+    (sym (word-decides (s .args .k) (s .args .facts) (lent s) (now (s .args .program)) (now (s .args .journal)) Unknown (begun (passed d)) (word d ∙ c .enum-told .given .1)))
     (λ e. omega arith)
 
 returns-3 : tie.Need-returns-3
 returns-3 c =
     let d = c .before .before in
     let s = first d in
-    step-stood (s .args .k) (lent s) (now (s .args .program)) (now (s .args .journal)) UNDEFINED
-    (sym (word-decides (s .args .k) (lent s) (now (s .args .program)) (now (s .args .journal)) Undefined (begun (passed d)) (word d ∙ c .enum-told2 .given .1)))
+    step-stood (s .args .k) (s .args .facts) (lent s) (now (s .args .program)) (now (s .args .journal)) UNDEFINED
+    (sym (word-decides (s .args .k) (s .args .facts) (lent s) (now (s .args .program)) (now (s .args .journal)) Undefined (begun (passed d)) (word d ∙ c .enum-told2 .given .1)))
     (λ e. omega arith)
 
 returns-4 : tie.Need-returns-4
@@ -93,7 +95,7 @@ returns-4 c =
     let f = found (done .before) in
     let d = f .before .before in
     let s = first d in
-    word-performed (s .args .k) (lent s) (now (s .args .program)) (now (s .args .journal)) (f .decoded .given .0 .0) _ _ _ (begun (passed d)) (word d ∙ f .decoded .given .1)
+    word-performed (s .args .k) (s .args .facts) (lent s) (now (s .args .program)) (now (s .args .journal)) (f .decoded .given .0 .0) _ _ _ (begun (passed d)) (word d ∙ f .decoded .given .1)
     (done .perform .ensures)
 
 pub step-spec : {M : Type 1} → statement M

@@ -24,13 +24,13 @@ returns : tie.Need-returns
 returns c =
     let t = backed c .before .before .before in
     let s = start (t .before) in
-    gone-back (s .args .k) (lent s) (now (s .args .program)) (now (s .args .journal)) (s .args .direction) _ _ _ (t .if1 .taken) (backed c .back .ensures)
+    gone-back (s .args .k) (s .args .facts) (lent s) (now (s .args .program)) (now (s .args .journal)) (s .args .direction) _ _ _ (t .if1 .taken) (backed c .back .ensures)
 
 returns-2 : tie.Need-returns-2
 returns-2 c =
     let e = stepped c .before .before .before in
     let s = start (e .before) in
-    gone-forward (s .args .k) (lent s) (now (s .args .program)) (now (s .args .journal)) (s .args .direction) _ _ _ (e .if1 .left) (stepped c .step .ensures)
+    gone-forward (s .args .k) (s .args .facts) (lent s) (now (s .args .program)) (now (s .args .journal)) (s .args .direction) _ _ _ (e .if1 .left) (stepped c .step .ensures)
 
 pub go-spec : {M : Type 1} → statement M
 go-spec =

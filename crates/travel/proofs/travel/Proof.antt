@@ -9,6 +9,7 @@ use native.Mathlib.Omega.{arith}
 use denote.Ref.{now}
 use lib.ListN.{length, getD, drop}
 use lib.Seq.{drop-cons, drop-length}
+use Rattle.facts.specs.declared.Facts.{Facts}
 use Rattle.registers.specs.State.{state}
 use Rattle.travel.specs.declared.Travelled.{Travelled}
 use Rattle.travel.specs.Travel.{Trip, tripOf, travelled, onward}
@@ -18,29 +19,29 @@ use Rattle.travel.proofs.travel.Statement.{statement}
 use Rattle.travel.proofs.travel.Tie as tie
 
 -- the step at a place, and then those after it
-trip-next : (k i : ℕ) (program directions : List ℕ) (t after : Trip) → i < length directions → after ≡ onward k program (getD directions i 0) t
-    → travelled k program (drop (i + 1) directions) after ≡ travelled k program (drop i directions) t
+trip-next : (k : ℕ) (facts : Facts) (i : ℕ) (program directions : List ℕ) (t after : Trip) → i < length directions → after ≡ onward k facts program (getD directions i 0) t
+    → travelled k facts program (drop (i + 1) directions) after ≡ travelled k facts program (drop i directions) t
 unfolding travelled
-trip-next k i program directions t after h is =
-    rw (is, add-one i) (sym (ap (λ (rest : List ℕ). travelled k program rest t) (drop-cons directions i 0 h)))
+trip-next k facts i program directions t after h is =
+    rw (is, add-one i) (sym (ap (λ (rest : List ℕ). travelled k facts program rest t) (drop-cons directions i 0 h)))
 
 -- past the last step
-trip-ended : (k i : ℕ) (program directions : List ℕ) (t : Trip) → i ≡ length directions → travelled k program (drop i directions) t ≡ t
+trip-ended : (k : ℕ) (facts : Facts) (i : ℕ) (program directions : List ℕ) (t : Trip) → i ≡ length directions → travelled k facts program (drop i directions) t ≡ t
 unfolding travelled
-trip-ended k i program directions t end =
-    ap (λ (rest : List ℕ). travelled k program rest t) (ap (λ (j : ℕ). drop j directions) end ∙ drop-length directions)
+trip-ended k facts i program directions t end =
+    ap (λ (rest : List ℕ). travelled k facts program rest t) (ap (λ (j : ℕ). drop j directions) end ∙ drop-length directions)
 
 abbrev Inv-loop : tie.InvT-loop
-Inv-loop k z₀ p program journal₀ directions made₀ i₀ z journal made i =
+Inv-loop k facts z₀ p program journal₀ directions made₀ i₀ z journal made i =
     (i ≤ length directions)
     × (length z ≡ length z₀)
     × (length journal ≡ length journal₀)
     × (made .forward ≤ i)
     × (made .back ≤ i)
-    × (travelled k program (drop i directions) (tripOf (state z p) journal made) ≡ travelled k program directions (tripOf (state z₀ p) journal₀ made₀))
+    × (travelled k facts program (drop i directions) (tripOf (state z p) journal made) ≡ travelled k facts program directions (tripOf (state z₀ p) journal₀ made₀))
 
 abbrev μ-loop : tie.MeasureT-loop
-μ-loop k z₀ p program journal₀ directions made₀ i₀ z journal made i = length directions - i
+μ-loop k facts z₀ p program journal₀ directions made₀ i₀ z journal made i = length directions - i
 
 -- the function's entry, the loop's turn, and the step that it takes
 abbrev start : tie.At-loop Inv-loop μ-loop → tie.Start Inv-loop μ-loop
@@ -66,12 +67,12 @@ loop-again c =
     let direction = getD (now (a .directions)) (l .i) 0 in
     let few = counted-few direction (g .result) (l .i) (l .made) (l .inv .3) (l .inv .4) in (
       omega arith,
-      g .kept .1 .0 ∙ l .inv .1,
-      g .kept .1 .1 .1 .1 .0 ∙ l .inv .2,
+      g .kept .1 .1 .0 ∙ l .inv .1,
+      g .kept .1 .1 .1 .1 .1 .0 ∙ l .inv .2,
       omega (arith, few .0, ap (λ (m : Travelled). m .forward) (c .counted .ensures)),
       omega (arith, few .1, ap (λ (m : Travelled). m .back) (c .counted .ensures)),
-      trip-next (a .k) (l .i) (now (a .program)) (now (a .directions)) (tripOf (state (l .z) (now (a .p))) (l .journal) (l .made)) _ (omega arith)
-          (trip-onward (a .k) (state (l .z) (now (a .p))) (now (a .program)) (l .journal) direction (g .result) _ _ (l .made) (c .counted .result)
+      trip-next (a .k) (a .facts) (l .i) (now (a .program)) (now (a .directions)) (tripOf (state (l .z) (now (a .p))) (l .journal) (l .made)) _ (omega arith)
+          (trip-onward (a .k) (a .facts) (state (l .z) (now (a .p))) (now (a .program)) (l .journal) direction (g .result) _ _ (l .made) (c .counted .result)
           (g .ensures) (c .counted .ensures))
           ∙ l .inv .5,
     )
@@ -87,8 +88,8 @@ returns c =
     let l = c .before .loop in
     let a = start (c .before) .args in
     let t : Trip = tripOf (state (l .z) (now (a .p))) (l .journal) (l .made) in
-    made-all (a .k) (state (now (a .z)) (now (a .p))) (now (a .program)) (now (a .journal)) (now (a .directions)) (t .files) (l .journal) (l .made)
-    (sym (trip-ended (a .k) (l .i) (now (a .program)) (now (a .directions)) t (omega arith)) ∙ l .inv .5)
+    made-all (a .k) (a .facts) (state (now (a .z)) (now (a .p))) (now (a .program)) (now (a .journal)) (now (a .directions)) (t .files) (l .journal) (l .made)
+    (sym (trip-ended (a .k) (a .facts) (l .i) (now (a .program)) (now (a .directions)) t (omega arith)) ∙ l .inv .5)
 
 pub travel-spec : {M : Type 1} → statement M
 travel-spec =
