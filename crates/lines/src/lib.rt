@@ -72,7 +72,7 @@ fn put_text(out: &mut [u8], at: usize, word: u32) -> usize
     requires { ⌜ at + leastOut ≤ length (now out) ⌝ }
     ensures { λ r. ⌜ Put (now (out .entry)) at (withSpace (textOfWord word)) (now (out .exit)) r ⌝ }
 {
-    let end = at + names::text(word, facts::facts_of(facts::ALL), &mut out[at..]).value as usize;
+    let end = at + names::text(word, facts::all(), &mut out[at..]).value as usize;
     digits::put(out, end, b' ')
 }
 

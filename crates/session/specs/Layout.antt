@@ -1,24 +1,31 @@
--- A session's bytes: mark, version, k and word count, then the vector file, the predicate file and the words, and nothing more.
+-- A session's bytes: mark, version, k and word count, in the second version a byte of facts, then the vector file, the predicate file and the
+-- words, and nothing more. The first version means all facts.
 use Prim.Native.Nat.{ℕ, _+_, _*_, _-_, _≤_}
 use mathlib.Core.Path.{_≡_}
-use mathlib.Core.Bool.{Bool, not}
+use mathlib.Core.Bool.{Bool, not, cond}
+use mathlib.Core.Logic.{_⊎_}
 use mathlib.Core.List.{List, [], _∷_}
 use lib.Dec.{eqb, leb}
-use lib.ListN.{length}
+use lib.ListN.{length, getD}
 use Rattle.parts.specs.Part.{both, part, sameBytes}
 use Rattle.parts.specs.Number.{numberAt}
-use Rattle.machine.specs.Size.{mostLength, isLegal, Legal, vectorFile, predicateFile, wordBytes, mostWords, Files}
+use Rattle.facts.specs.declared.Facts.{Facts}
+use Rattle.facts.specs.Facts.{factsOf, allByte, noFacts}
+use Rattle.machine.specs.Size.{mostLength, isAmong, isLegal, Legal, vectorFile, predicateFile, wordBytes, mostWords, Files}
 use Rattle.machine.specs.Refusal.{DONE, SESSION, Test, test, refused, unlessRefused}
 use Rattle.session.specs.declared.Session.{Session}
 
--- the mark `LNW`, and the version
+-- the mark `LNW`, and the versions: the first, and the one with facts
 abbrev pub mark : List ℕ
 mark = 76 ∷ 78 ∷ 87 ∷ []
 
-abbrev pub sessionFormat : ℕ
-sessionFormat = 1
+abbrev pub firstFormat : ℕ
+firstFormat = 1
 
--- the bytes of the mark, of the version, of k and of the count
+abbrev pub factsFormat : ℕ
+factsFormat = 2
+
+-- the bytes of the mark, of the version, of k, of the count and of the facts
 abbrev pub markBytes : ℕ
 markBytes = 3
 
@@ -31,7 +38,10 @@ lengthBytes = 1
 abbrev pub wordCountBytes : ℕ
 wordCountBytes = 2
 
--- where the version, k and the count stand, and the bytes before the vector file
+abbrev pub factsBytes : ℕ
+factsBytes = 1
+
+-- where the version, k, the count and the facts stand
 abbrev pub versionAt : ℕ
 versionAt = markBytes
 
@@ -41,10 +51,19 @@ lengthAt = versionAt + versionBytes
 abbrev pub wordCountAt : ℕ
 wordCountAt = lengthAt + lengthBytes
 
-abbrev pub sessionHeader : ℕ
-sessionHeader = wordCountAt + wordCountBytes
+abbrev pub factsAt : ℕ
+factsAt = wordCountAt + wordCountBytes
 
--- the mark, the version, k and the count that the header gives
+-- the bytes before the vector file, by the version
+unfoldable pub sessionHeader : ℕ → ℕ
+sessionHeader version = factsAt + cond (eqb version factsFormat) factsBytes 0
+
+pub record Header (version r : ℕ) : Type 0 where
+  pub is : r ≡ sessionHeader version
+  pub least : factsAt ≤ r
+  pub most : r ≤ factsAt + factsBytes
+
+-- the mark, the version, k and the count that the header gives, and its byte of facts, which stands for all in the first version
 abbrev pub sessionMark : List ℕ → List ℕ
 sessionMark bytes = part 0 markBytes bytes
 
@@ -57,32 +76,40 @@ sessionLength bytes = numberAt lengthAt lengthBytes bytes
 abbrev pub wordCount : List ℕ → ℕ
 wordCount bytes = numberAt wordCountAt wordCountBytes bytes
 
--- where the predicate file and the words start, and where the words end
-abbrev pub predicatesAt : ℕ → ℕ
-predicatesAt k = sessionHeader + vectorFile k
+abbrev pub factsByteIn : ℕ → List ℕ → ℕ
+factsByteIn version bytes = cond (eqb version factsFormat) (getD bytes factsAt 0) allByte
 
-abbrev pub programAt : ℕ → ℕ
-programAt k = predicatesAt k + predicateFile k
+abbrev pub factsByte : List ℕ → ℕ
+factsByte bytes = factsByteIn (sessionVersion bytes) bytes
 
-abbrev pub endAt : ℕ → ℕ → ℕ
-endAt k count = programAt k + wordBytes * count
+-- where the predicate file and the words start past a header of so many bytes, and where the words end
+abbrev pub predicatesAt : ℕ → ℕ → ℕ
+predicatesAt header k = header + vectorFile k
+
+abbrev pub programAt : ℕ → ℕ → ℕ
+programAt header k = predicatesAt header k + predicateFile k
+
+abbrev pub endAt : ℕ → ℕ → ℕ → ℕ
+endAt header k count = programAt header k + wordBytes * count
 
 -- the bytes of the longest session
 abbrev pub mostSession : ℕ
-mostSession = endAt mostLength mostWords
+mostSession = endAt (factsAt + factsBytes) mostLength mostWords
 
--- the mark and the version are right
+-- the mark is right, and the version one of the two
 abbrev pub isHeaded : List ℕ → Bool
-isHeaded bytes = both (sameBytes (sessionMark bytes) mark) (eqb (sessionVersion bytes) sessionFormat)
+isHeaded bytes = both (sameBytes (sessionMark bytes) mark) (isAmong (sessionVersion bytes) (firstFormat ∷ factsFormat ∷ []))
 
--- k is legal, the words are not too many, and a session of both has n bytes
-abbrev pub isSized : ℕ → ℕ → ℕ → Bool
-isSized k count n = both (isLegal k) (both (leb count mostWords) (eqb n (endAt k count)))
+-- k is legal, the words are not too many, and a session of both has n bytes past such a header
+abbrev pub isSized : ℕ → ℕ → ℕ → ℕ → Bool
+isSized header k count n = both (isLegal k) (both (leb count mostWords) (eqb n (endAt header k count)))
 
--- a session: there is a header, and mark, version, k, count and total length are right
+-- a session: there is a header, and mark, version, k, count, total length and facts are right
 abbrev pub isSession : List ℕ → Bool
 isSession bytes =
-    both (leb sessionHeader (length bytes)) (both (isHeaded bytes) (isSized (sessionLength bytes) (wordCount bytes) (length bytes)))
+    both (leb factsAt (length bytes))
+    (both (isHeaded bytes)
+    (both (isSized (sessionHeader (sessionVersion bytes)) (sessionLength bytes) (wordCount bytes) (length bytes)) (leb (factsByte bytes) allByte)))
 
 -- the one test of bytes read as a session, and its refusal
 abbrev pub sessionTests : List ℕ → List Test
@@ -91,26 +118,29 @@ sessionTests bytes = test SESSION (not (isSession bytes)) ∷ []
 abbrev pub sessionRefused : List ℕ → ℕ
 sessionRefused bytes = refused (sessionTests bytes)
 
--- the length, the count, and where each part of a session starts and the last ends
-abbrev pub placed : ℕ → ℕ → Session
-placed k count =
+-- the length, the count, where each part of a session starts and the last ends, and the facts
+abbrev pub placed : ℕ → ℕ → ℕ → Facts → Session
+placed header k count facts =
     record {
       number = DONE;
       k = k;
       count = count;
-      vectors = sessionHeader;
-      predicates = predicatesAt k;
-      program = programAt k;
-      end = endAt k count;
+      vectors = header;
+      predicates = predicatesAt header k;
+      program = programAt header k;
+      end = endAt header k count;
+      facts = facts;
     }
 
 -- what is answered for other bytes
 abbrev pub noSession : Session
-noSession = record { number = SESSION; k = 0; count = 0; vectors = 0; predicates = 0; program = 0; end = 0 }
+noSession = record { number = SESSION; k = 0; count = 0; vectors = 0; predicates = 0; program = 0; end = 0; facts = noFacts }
 
 -- what some bytes are, read as a session
 unfoldable pub sessionOf : List ℕ → Session
-sessionOf bytes = unlessRefused (sessionRefused bytes) (placed (sessionLength bytes) (wordCount bytes)) noSession
+sessionOf bytes =
+    unlessRefused (sessionRefused bytes)
+    (placed (sessionHeader (sessionVersion bytes)) (sessionLength bytes) (wordCount bytes) (factsOf (factsByte bytes))) noSession
 
 -- the parts of some bytes that a session names
 abbrev pub vectorPart : Session → List ℕ → List ℕ
@@ -125,10 +155,11 @@ programPart s bytes = part (s .program) (s .end - s .program) bytes
 -- bytes that are a session, in the paper's words
 pub record IsSession (bytes : List ℕ) : Type 0 where
   pub marked : sessionMark bytes ≡ mark
-  pub versioned : sessionVersion bytes ≡ sessionFormat
+  pub versioned : (sessionVersion bytes ≡ firstFormat) ⊎ (sessionVersion bytes ≡ factsFormat)
   pub legal : Legal (sessionLength bytes)
   pub few : wordCount bytes ≤ mostWords
-  pub whole : length bytes ≡ endAt (sessionLength bytes) (wordCount bytes)
+  pub whole : length bytes ≡ endAt (sessionHeader (sessionVersion bytes)) (sessionLength bytes) (wordCount bytes)
+  pub told : sessionVersion bytes ≡ factsFormat → getD bytes factsAt 0 ≤ allByte
 
 -- parts that lie one after the other in the bytes, and have the sizes of a legal length and of a program
 pub record Parts (bytes : List ℕ) (s : Session) : Type 0 where

@@ -1,6 +1,5 @@
 -- `put_text` meets its contract: the text in the part from the place on, which holds the longest, then the space.
 -- Assumes nothing.
-use mathlib.Core.Path.{_∙_}
 use Prim.Native.Nat.{_+_, _-_, _≤_}
 use native.Mathlib.Nat.{le-refl}
 use native.Mathlib.Omega.{arith}
@@ -8,7 +7,6 @@ use denote.Ref.{now}
 use lib.ListN.{length}
 use borrow.Author.Needs.{needs}
 use borrow.Rule.Slice.PartMut.{putMid, mid-len}
-use Rattle.facts.proofs.Bytes.{all-of-byte}
 use Rattle.digits.specs.Put.{Put}
 use Rattle.digits.proofs.Puts.{put-then, put-length}
 use Rattle.names.specs.Named.{textOfWord}
@@ -23,7 +21,7 @@ abbrev texted : tie.After-put-arg → tie.After-text
 texted c = c .before .before .before
 
 -- where the core with all facts is asked for
-abbrev asked : tie.After-text → tie.After-facts-of
+abbrev asked : tie.After-text → tie.After-all
 asked c = c .before .before
 
 -- the text is written at the place, and the space fits after it
@@ -33,7 +31,7 @@ named : (c : tie.After-text) → let a = asked c .before .before .args in
 named c =
     let a = asked c .before .before .args in
     put-from (a .at) (now (a .out)) (omega arith) (omega (arith, word-length (a .word)))
-    (named-put (a .word) _ _ _ (c .text .result) (asked c .facts-of .ensures ∙ all-of-byte) (omega (arith, mid-len (a .at) (length (now (a .out))) (now (a .out)) (le-refl _))) (c .text .ensures))
+    (named-put (a .word) _ _ _ (c .text .result) (asked c .all .ensures) (omega (arith, mid-len (a .at) (length (now (a .out))) (now (a .out)) (le-refl _))) (c .text .ensures))
 
 short : (c : tie.After-text) → let a = asked c .before .before .args in a .at + c .text .result .value + 1 ≤ length (now (a .out))
 short c = omega (arith, named c .after, word-length (asked c .before .before .args .word))

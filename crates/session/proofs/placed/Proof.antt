@@ -5,7 +5,7 @@ use Rattle.session.proofs.placed.Statement.{statement}
 use Rattle.session.proofs.placed.Tie as tie
 
 returns : tie.Need-returns
-returns c = rw (c .before .vector-file .ensures, c .predicate-file .ensures)
+returns c = rw (c .before .before .vector-file .ensures, c .before .predicate-file .ensures, c .end-of .ensures)
 
 pub placed-spec : {M : Type 1} → statement M
 placed-spec =
@@ -15,6 +15,5 @@ placed-spec =
     (λ c. search needs)
     (λ c κs. search needs)
     (λ c. search needs)
-    (λ c. search needs)
-    (λ c. search needs)
+    (λ c κs. search needs)
     returns)
