@@ -10,6 +10,7 @@ use Rattle.machine.specs.Size.{vectorBytes}
 use Rattle.machine.specs.Refusal.{DONE}
 use Rattle.parts.specs.Number.{bitsOf, AreBytes}
 use Rattle.registers.specs.Register.{padded}
+use Rattle.facts.specs.declared.Facts.{Facts}
 use Rattle.registers.specs.State.{State, read}
 use Rattle.registers.specs.declared.Kind.the-variants.{Vector}
 use Rattle.lanes.specs.Lane.{widthOf, lane, fromLanes}
@@ -31,14 +32,14 @@ use Rattle.answers.proofs.Calls.{register-after, subtotal-is-the-sum, a
 use Rattle.journal.specs.Calls.{fieldsNow, Stepped}
 use Rattle.journal.proofs.Accepted.{AcceptedStep, step-accepted}
 
-module _ (k : ℕ) (s : State) (program journal : List ℕ) (r : ℕ) (after : State) (entries : List ℕ)
-    (made : Stepped k s program journal r after entries) (done : r ≡ DONE) where
+module _ (k : ℕ) (facts : Facts) (s : State) (program journal : List ℕ) (r : ℕ) (after : State) (entries : List ℕ)
+    (made : Stepped k facts s program journal r after entries) (done : r ≡ DONE) where
   -- the word's fields, and what is known of the step
   abbrev f : Fields
   f = fieldsNow program journal
 
-  known : AcceptedStep k s program journal
-  known = step-accepted k s program journal (sym (made .answered) ∙ done)
+  known : AcceptedStep k facts s program journal
+  known = step-accepted k facts s program journal (sym (made .answered) ∙ done)
 
   left : after ≡ executed f k s
   left = made .files ∙ known .files
@@ -121,13 +122,13 @@ module _ (k : ℕ) (s : State) (program journal : List ℕ) (r : ℕ) (after : S
 
   -- inactive lanes and bits at no e·w do not change what a step leaves: another state that agrees at the bits e·w and at the active lanes, and
   -- for a pairwise accumulate at the old destination, has the same destination after the step
-  pub step-matters : (s′ : State) (r′ : ℕ) (after′ : State) (entries′ : List ℕ) → Stepped k s′ program journal r′ after′ entries′ → r′ ≡ DONE
+  pub step-matters : (s′ : State) (r′ : ℕ) (after′ : State) (entries′ : List ℕ) → Stepped k facts s′ program journal r′ after′ entries′ → r′ ≡ DONE
       → isGoverned (familyOf (f .row)) ≡ true
       → Agree (widthOf (f .size)) (governedOf f k s) (governedOf f k s′)
       → (familyOf (f .row) ≡ Wide Pairwise → read k Vector (f .d) s ≡ read k Vector (f .d) s′)
       → read k Vector (f .d) after ≡ read k Vector (f .d) after′
   step-matters s′ r′ after′ entries′ made′ done′ governed agree old =
-      let other = step-accepted k s′ program journal (sym (made′ .answered) ∙ done′) in
+      let other = step-accepted k facts s′ program journal (sym (made′ .answered) ∙ done′) in
       step-leaves
       ∙ only-active-matters f k s s′ (known .executes) (other .executes) governed agree old
       ∙ sym (ap (read k Vector (f .d)) (made′ .files ∙ other .files) ∙ register-after f k s′ (other .executes))

@@ -16,6 +16,7 @@ use Rattle.machine.specs.Size.{mostWords, isLegal}
 use Rattle.machine.specs.Refusal.{DONE, OUT, inOrder, First, refused, unlessRefused}
 use Rattle.machine.specs.declared.Answer.{Answer}
 use Rattle.machine.proofs.Tests.{first-exactly, unless-refused}
+use Rattle.facts.specs.declared.Facts.{Facts}
 use Rattle.registers.specs.State.{State}
 use Rattle.digits.specs.Digits.{digitsIn, widthWithin, decimalWidth}
 use Rattle.digits.proofs.Puts.{put-length}
@@ -34,56 +35,56 @@ use Rattle.walks.specs.Output.{printed, linesFrom, walkJournal, sessionS
 use Rattle.walks.proofs.Printed.{printed-most, printed-done}
 
 -- an accepted step's entry takes its bytes of what is left of the journal
-pub room-taken : (k : ℕ) (s : State) (program journal : List ℕ) → stepRefused k s program journal ≡ 0
-    → linesMost k (stepJournal k s program journal) + lineRate * entryBytes k ≡ linesMost k journal
-room-taken k s program journal e =
-    let a = step-accepted k s program journal e in
+pub room-taken : (k : ℕ) (facts : Facts) (s : State) (program journal : List ℕ) → stepRefused k facts s program journal ≡ 0
+    → linesMost k (stepJournal k facts s program journal) + lineRate * entryBytes k ≡ linesMost k journal
+room-taken k facts s program journal e =
+    let a = step-accepted k facts s program journal e in
     let entry = entryFor k (fieldsNow program journal) s in
-    let room = step-room k s program journal a in
+    let room = step-room k facts s program journal a in
     rw (a .bytes, length-pushed k entry journal room, held-pushed k entry journal room ∙ add-one (heldOf journal))
     (omega (arith, slot-next k (heldOf journal), entry-room k entry journal room))
 
-module _ (n k : ℕ) (program : List ℕ) (position : ℕ) (s after : State) (journal journal-after : List ℕ) (number : ℕ)
-    (step : Stepped k s program journal number after journal-after) where
+module _ (n k : ℕ) (facts : Facts) (program : List ℕ) (position : ℕ) (s after : State) (journal journal-after : List ℕ) (number : ℕ)
+    (step : Stepped k facts s program journal number after journal-after) where
   -- after an accepted step the lines of the rest follow, and after a refused one none
   pub lines-more : number ≡ DONE
-      → linesFrom (suc n) k program position s journal ≡ printed k after program position number ++ linesFrom n k program (position + 1) after journal-after
+      → linesFrom (suc n) k facts program position s journal ≡ printed k facts after program position number ++ linesFrom n k facts program (position + 1) after journal-after
   unfolding linesFrom
   lines-more done = rw (← step .files, ← step .bytes, ← step .answered, done)
 
-  pub lines-end : (number ≡ DONE → ⊥) → linesFrom (suc n) k program position s journal ≡ printed k after program position number
+  pub lines-end : (number ≡ DONE → ⊥) → linesFrom (suc n) k facts program position s journal ≡ printed k facts after program position number
   unfolding linesFrom
   lines-end h =
-      rw (← step .files, ← step .bytes, ← step .answered, unless-refused number (linesFrom n k program (position + 1) after journal-after) [] h)
-      (append-nil (printed k after program position number))
+      rw (← step .files, ← step .bytes, ← step .answered, unless-refused number (linesFrom n k facts program (position + 1) after journal-after) [] h)
+      (append-nil (printed k facts after program position number))
 
   -- what an accepted step prints takes no more than its entry's bytes make of the room for the lines to come
-  pub turn-room : number ≡ DONE → length (printed k after program position number) + linesMost k journal-after ≤ linesMost k journal
+  pub turn-room : number ≡ DONE → length (printed k facts after program position number) + linesMost k journal-after ≤ linesMost k journal
   turn-room done =
       rw (step .bytes, done)
-      (omega (arith, printed-done k after program position, room-taken k s program journal (sym (step .answered) ∙ done)))
+      (omega (arith, printed-done k facts after program position, room-taken k facts s program journal (sym (step .answered) ∙ done)))
 
-pub lines-none : (k : ℕ) (program : List ℕ) (position : ℕ) (s : State) (journal : List ℕ) → linesFrom 0 k program position s journal ≡ []
+pub lines-none : (k : ℕ) (facts : Facts) (program : List ℕ) (position : ℕ) (s : State) (journal : List ℕ) → linesFrom 0 k facts program position s journal ≡ []
 unfolding linesFrom
-lines-none k program position s journal = refl
+lines-none k facts program position s journal = refl
 
 -- so all lines are no longer than what is left of the journal makes them
-pub lines-most : (n k : ℕ) (program : List ℕ) (position : ℕ) (s : State) (journal : List ℕ) → length (linesFrom n k program position s journal) ≤ linesMost k journal
+pub lines-most : (n k : ℕ) (facts : Facts) (program : List ℕ) (position : ℕ) (s : State) (journal : List ℕ) → length (linesFrom n k facts program position s journal) ≤ linesMost k journal
 unfolding linesFrom
-lines-most zero k program position s journal = omega arith
-lines-most (suc n) k program position s journal =
-    let after = stepState k s program journal in
-    let journal-after = stepJournal k s program journal in
+lines-most zero k facts program position s journal = omega arith
+lines-most (suc n) k facts program position s journal =
+    let after = stepState k facts s program journal in
+    let journal-after = stepJournal k facts s program journal in
     rw length-append
-    (go (stepRefused k s program journal) refl (lines-most n k program (position + 1) after journal-after))
+    (go (stepRefused k facts s program journal) refl (lines-most n k facts program (position + 1) after journal-after))
   where
-    go : (number : ℕ) → stepRefused k s program journal ≡ number
-        → length (linesFrom n k program (position + 1) (stepState k s program journal) (stepJournal k s program journal)) ≤ linesMost k (stepJournal k s program journal)
-        → length (printed k (stepState k s program journal) program position number)
-        + length (unlessRefused number (linesFrom n k program (position + 1) (stepState k s program journal) (stepJournal k s program journal)) [])
+    go : (number : ℕ) → stepRefused k facts s program journal ≡ number
+        → length (linesFrom n k facts program (position + 1) (stepState k facts s program journal) (stepJournal k facts s program journal)) ≤ linesMost k (stepJournal k facts s program journal)
+        → length (printed k facts (stepState k facts s program journal) program position number)
+        + length (unlessRefused number (linesFrom n k facts program (position + 1) (stepState k facts s program journal) (stepJournal k facts s program journal)) [])
         ≤ linesMost k journal
-    go zero e rest = omega (arith, printed-done k (stepState k s program journal) program position, room-taken k s program journal e)
-    go (suc number) e rest = omega (arith, printed-most k (stepState k s program journal) program position (suc number))
+    go zero e rest = omega (arith, printed-done k facts (stepState k facts s program journal) program position, room-taken k facts s program journal e)
+    go (suc number) e rest = omega (arith, printed-most k facts (stepState k facts s program journal) program position (suc number))
 
 -- a walk's journal has all its room
 pub walk-room : (k : ℕ) → linesMost k (walkJournal k) ≤ mostOutput
@@ -112,7 +113,7 @@ output-most input = go (sessionOf input .number)
     go : (n : ℕ) → length (unlessRefused n (sessionLines (sessionOf input) input) sessionLine) ≤ mostOutput
     go zero =
         let s = sessionOf input in
-        omega (arith, lines-most mostWords (s .k) (programPart s input) 0 (sessionState s input) (walkJournal (s .k)), walk-room (s .k))
+        omega (arith, lines-most mostWords (s .k) (s .facts) (programPart s input) 0 (sessionState s input) (walkJournal (s .k)), walk-room (s .k))
     go (suc n) = omega (arith, session-short)
 
 pub output-within : (input old new : List ℕ) (r : Answer) → OutputWritten input old new r → r .value ≤ length new

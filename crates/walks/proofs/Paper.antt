@@ -11,8 +11,10 @@ use lib.ListN.{length}
 use borrow.Author.Tests.{eq-eqb, ne-eqb, le-leb, lt-leb, leb-true, leb-false}
 use Rattle.machine.specs.Size.{isProgram, wordBytes, mostWords}
 use Rattle.machine.specs.Refusal.{DONE, END, UNKNOWN, UNDEFINED, FULL, unlessRefused}
+use Rattle.facts.specs.declared.Facts.{Facts}
 use Rattle.registers.specs.State.{State, Sized}
-use Rattle.words.specs.Decode.{decoded, numberOf}
+use Rattle.words.specs.Decode.{numberOf}
+use Rattle.cores.specs.Core.{decodedOn}
 use Rattle.programs.specs.Word.{wordAt, wordsOf}
 use Rattle.entries.specs.Layout.{mostJournal, capacity, heldOf, journalOf}
 use Rattle.journal.specs.Calls.{wordNow, fieldsNow, entryFor, stepRefused, stepState, stepJournal}
@@ -31,7 +33,7 @@ use Rattle.walks.proofs.Printed.{end-silent, refused-printed, done-prin
 use Rattle.walks.proofs.Outputs.{output-session}
 
 -- what is known of a walk at its position
-pub record Standing (k : ℕ) (program : List ℕ) (position : ℕ) (s : State) (journal : List ℕ) : Type 0 where
+pub record Standing (k : ℕ) (facts : Facts) (program : List ℕ) (position : ℕ) (s : State) (journal : List ℕ) : Type 0 where
   pub files : Sized k s
   pub whole : isProgram (length program) ≡ true
   pub formed : Formed k journal
@@ -44,18 +46,18 @@ past-end false true c e = omega arith
 past-end false false true e = omega arith
 past-end false false false e = omega arith
 
-module _ (k : ℕ) (program : List ℕ) (position : ℕ) (s : State) (journal : List ℕ) (at : Standing k program position s journal) where
+module _ (k : ℕ) (facts : Facts) (program : List ℕ) (position : ℕ) (s : State) (journal : List ℕ) (at : Standing k facts program position s journal) where
   abbrev after : State
-  after = stepState k s program journal
+  after = stepState k facts s program journal
 
   abbrev number : ℕ
-  number = stepRefused k s program journal
+  number = stepRefused k facts s program journal
 
   -- a step is refused with END exactly at the program's end
   step-is : number
       ≡ cond (leb (wordsOf (length program)) position) END
-      (cond (eqb (numberOf (decoded (wordNow program journal))) UNKNOWN) UNKNOWN
-      (cond (eqb (numberOf (decoded (wordNow program journal))) UNDEFINED) UNDEFINED (cond (leb (capacity k (length journal)) (heldOf journal)) FULL DONE)))
+      (cond (eqb (numberOf (decodedOn facts (wordNow program journal))) UNKNOWN) UNKNOWN
+      (cond (eqb (numberOf (decodedOn facts (wordNow program journal))) UNDEFINED) UNDEFINED (cond (leb (capacity k (length journal)) (heldOf journal)) FULL DONE)))
   unfolding stepRefused
   step-is =
       rw (
@@ -73,7 +75,7 @@ module _ (k : ℕ) (program : List ℕ) (position : ℕ) (s : State) (journal : 
 
   before-end : position < wordsOf (length program) → number ≡ END → ⊥
   before-end h e =
-      past-end (eqb (numberOf (decoded (wordNow program journal))) UNKNOWN) (eqb (numberOf (decoded (wordNow program journal))) UNDEFINED)
+      past-end (eqb (numberOf (decodedOn facts (wordNow program journal))) UNKNOWN) (eqb (numberOf (decodedOn facts (wordNow program journal))) UNDEFINED)
       (leb (capacity k (length journal)) (heldOf journal))
       (rw (lt-leb _ _ h) at (sym step-is ∙ e))
 
@@ -84,35 +86,35 @@ module _ (k : ℕ) (program : List ℕ) (position : ℕ) (s : State) (journal : 
     where
       go : (n : ℕ) → number ≡ n → Sized k after
       go zero e =
-          let a = step-accepted k s program journal e in
+          let a = step-accepted k facts s program journal e in
           rw (a .files) (executed-sized (fieldsNow program journal) k s (a .executes))
       go (suc n) e = rw e (at .files)
 
   -- what is printed of the step
-  turn-paper : printed k after program position number ≡ cond (eqb number END) [] (stepLine k after program position number)
+  turn-paper : printed k facts after program position number ≡ cond (eqb number END) [] (stepLine k after program position number)
   turn-paper = go (leb (wordsOf (length program)) position) refl
     where
-      line : position < wordsOf (length program) → (n : ℕ) → number ≡ n → printed k after program position n ≡ stepLine k after program position n
+      line : position < wordsOf (length program) → (n : ℕ) → number ≡ n → printed k facts after program position n ≡ stepLine k after program position n
       line below zero e =
-          done-printed k after program position files-after (at .whole) below
-          (ap numberOf (ap (λ (i : ℕ). decoded (wordAt program i)) (sym (at .held)) ∙ step-accepted k s program journal e .word))
-      line below (suc n) e = refused-printed k after program position files-after (at .whole) below (suc n) (λ h. omega arith)
+          done-printed k facts after program position files-after (at .whole) below
+          (ap numberOf (ap (λ (i : ℕ). decodedOn facts (wordAt program i)) (sym (at .held)) ∙ step-accepted k facts s program journal e .word))
+      line below (suc n) e = refused-printed k facts after program position files-after (at .whole) below (suc n) (λ h. omega arith)
 
       go : (t : Bool) → leb (wordsOf (length program)) position ≡ t
-          → printed k after program position number ≡ cond (eqb number END) [] (stepLine k after program position number)
+          → printed k facts after program position number ≡ cond (eqb number END) [] (stepLine k after program position number)
       go true e =
           let h = leb-true (wordsOf (length program)) position e in
-          end-silent k after program position number h ∙ rw (at-end h)
+          end-silent k facts after program position number h ∙ rw (at-end h)
       go false e =
           let h = leb-false (wordsOf (length program)) position e in
           line h number refl ∙ rw (ne-eqb _ _ (before-end h))
 
   -- after an accepted step the walk stands at the next position
-  standing-next : number ≡ 0 → Standing k program (position + 1) after (stepJournal k s program journal)
+  standing-next : number ≡ 0 → Standing k facts program (position + 1) after (stepJournal k facts s program journal)
   standing-next e =
-      let a = step-accepted k s program journal e in
+      let a = step-accepted k facts s program journal e in
       let entry = entryFor k (fieldsNow program journal) s in
-      let room = step-room k s program journal a in
+      let room = step-room k facts s program journal a in
       record {
         files = files-after;
         whole = at .whole;
@@ -121,18 +123,18 @@ module _ (k : ℕ) (program : List ℕ) (position : ℕ) (s : State) (journal : 
       }
 
 -- the lines of a walk are the paper's
-lines-paper : (n k : ℕ) (program : List ℕ) (position : ℕ) (s : State) (journal : List ℕ) → Standing k program position s journal
-    → linesFrom n k program position s journal ≡ paperLines n k program position s journal
+lines-paper : (n k : ℕ) (facts : Facts) (program : List ℕ) (position : ℕ) (s : State) (journal : List ℕ) → Standing k facts program position s journal
+    → linesFrom n k facts program position s journal ≡ paperLines n k facts program position s journal
 unfolding linesFrom paperLines
-lines-paper zero k program position s journal at = refl
-lines-paper (suc n) k program position s journal at =
-    ap₂ (λ (a b : List ℕ). a ++ b) (turn-paper k program position s journal at)
-    (go (stepRefused k s program journal) (λ e. lines-paper n k program (position + 1) _ _ (standing-next k program position s journal at e)))
+lines-paper zero k facts program position s journal at = refl
+lines-paper (suc n) k facts program position s journal at =
+    ap₂ (λ (a b : List ℕ). a ++ b) (turn-paper k facts program position s journal at)
+    (go (stepRefused k facts s program journal) (λ e. lines-paper n k facts program (position + 1) _ _ (standing-next k facts program position s journal at e)))
   where
-    go : (m : ℕ) → (m ≡ 0 → linesFrom n k program (position + 1) (stepState k s program journal) (stepJournal k s program journal)
-        ≡ paperLines n k program (position + 1) (stepState k s program journal) (stepJournal k s program journal))
-        → unlessRefused m (linesFrom n k program (position + 1) (stepState k s program journal) (stepJournal k s program journal)) []
-        ≡ unlessRefused m (paperLines n k program (position + 1) (stepState k s program journal) (stepJournal k s program journal)) []
+    go : (m : ℕ) → (m ≡ 0 → linesFrom n k facts program (position + 1) (stepState k facts s program journal) (stepJournal k facts s program journal)
+        ≡ paperLines n k facts program (position + 1) (stepState k facts s program journal) (stepJournal k facts s program journal))
+        → unlessRefused m (linesFrom n k facts program (position + 1) (stepState k facts s program journal) (stepJournal k facts s program journal)) []
+        ≡ unlessRefused m (paperLines n k facts program (position + 1) (stepState k facts s program journal) (stepJournal k facts s program journal)) []
     go zero rest = rest refl
     go (suc m) rest = refl
 
@@ -151,7 +153,7 @@ fresh-formed k =
       named = refl;
     }
 
-session-standing : (bytes : List ℕ) (s : Session) → Parts bytes s → Standing (s .k) (programPart s bytes) 0 (sessionState s bytes) (walkJournal (s .k))
+session-standing : (bytes : List ℕ) (s : Session) → Parts bytes s → Standing (s .k) (s .facts) (programPart s bytes) 0 (sessionState s bytes) (walkJournal (s .k))
 unfolding walkJournal
 session-standing bytes s parts =
     let few : wordBytes * s .count ≤ wordBytes * mostWords = omega (arith, parts .few) in
@@ -164,8 +166,8 @@ session-standing bytes s parts =
 
 -- the whole output of a session is the paper's
 pub output-paper : (bytes : List ℕ) (s : Session) → s ≡ sessionOf bytes → s .number ≡ DONE
-    → outputOf bytes ≡ paperLines mostWords (s .k) (programPart s bytes) 0 (sessionState s bytes) (walkJournal (s .k))
+    → outputOf bytes ≡ paperLines mostWords (s .k) (s .facts) (programPart s bytes) 0 (sessionState s bytes) (walkJournal (s .k))
 output-paper bytes s e done =
     output-session bytes s e done
-    ∙ lines-paper mostWords (s .k) (programPart s bytes) 0 (sessionState s bytes) (walkJournal (s .k))
+    ∙ lines-paper mostWords (s .k) (s .facts) (programPart s bytes) 0 (sessionState s bytes) (walkJournal (s .k))
     (session-standing bytes s (session-parts bytes s e done))

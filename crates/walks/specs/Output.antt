@@ -7,6 +7,7 @@ use lib.ListN.{length}
 use Rattle.machine.specs.Size.{mostWords, Files}
 use Rattle.machine.specs.Refusal.{DONE, Test, outTest, refused, unlessRefused}
 use Rattle.machine.specs.declared.Answer.{Answer}
+use Rattle.facts.specs.declared.Facts.{Facts}
 use Rattle.registers.specs.State.{State, state}
 use Rattle.digits.specs.Put.{Put}
 use Rattle.entries.specs.Layout.{mostJournal, slotAt, heldOf, freshJournal}
@@ -17,17 +18,17 @@ use Rattle.lines.specs.Line.{mostLine, stepLine, sessionLine, lineRefused, Writ
 use Rattle.walks.specs.declared.Turn.{Turn}
 
 -- what is printed of a step at a position, which answered this number and left this state: its line, and past the program's end nothing
-unfoldable pub printed : ℕ → State → List ℕ → ℕ → ℕ → List ℕ
-printed k s program position number =
-    unlessRefused (lineRefused k s program position number mostLine) (stepLine k s program position number) []
+unfoldable pub printed : ℕ → Facts → State → List ℕ → ℕ → ℕ → List ℕ
+printed k facts s program position number =
+    unlessRefused (lineRefused k facts s program position number mostLine) (stepLine k s program position number) []
 
 -- the lines of a walk from a position on, of n steps at most: that of the next step, and after an accepted one those of the rest
-unfoldable pub linesFrom : ℕ → ℕ → List ℕ → ℕ → State → List ℕ → List ℕ
-linesFrom zero k program position s journal = []
-linesFrom (suc n) k program position s journal =
-    printed k (stepState k s program journal) program position (stepRefused k s program journal)
-    ++ unlessRefused (stepRefused k s program journal)
-    (linesFrom n k program (position + 1) (stepState k s program journal) (stepJournal k s program journal))
+unfoldable pub linesFrom : ℕ → ℕ → Facts → List ℕ → ℕ → State → List ℕ → List ℕ
+linesFrom zero k facts program position s journal = []
+linesFrom (suc n) k facts program position s journal =
+    printed k facts (stepState k facts s program journal) program position (stepRefused k facts s program journal)
+    ++ unlessRefused (stepRefused k facts s program journal)
+    (linesFrom n k facts program (position + 1) (stepState k facts s program journal) (stepJournal k facts s program journal))
     []
 
 -- the fresh journal of a walk, which has all the room that a journal may have
@@ -38,9 +39,9 @@ walkJournal k = freshJournal k mostJournal
 abbrev pub sessionState : Session → List ℕ → State
 sessionState s bytes = state (vectorPart s bytes) (predicatePart s bytes)
 
--- the lines of a session, walked with a fresh journal
+-- the lines of a session, walked on a core with its facts and with a fresh journal
 abbrev pub sessionLines : Session → List ℕ → List ℕ
-sessionLines s bytes = linesFrom mostWords (s .k) (programPart s bytes) 0 (sessionState s bytes) (walkJournal (s .k))
+sessionLines s bytes = linesFrom mostWords (s .k) (s .facts) (programPart s bytes) 0 (sessionState s bytes) (walkJournal (s .k))
 
 -- the whole output
 unfoldable pub outputOf : List ℕ → List ℕ
@@ -67,10 +68,10 @@ abbrev pub OutputWritten : List ℕ → List ℕ → List ℕ → Answer → Typ
 OutputWritten bytes old new r = Written (refused (outputTests (length old))) (outputOf bytes) old new r
 
 -- a step taken, and what is printed of it written at a place
-pub record Turned (k : ℕ) (s : State) (program journal : List ℕ) (position at : ℕ) (out : List ℕ) (r : Turn) (after : State)
+pub record Turned (k : ℕ) (facts : Facts) (s : State) (program journal : List ℕ) (position at : ℕ) (out : List ℕ) (r : Turn) (after : State)
     (journal-after out-after : List ℕ) : Type 0 where
-  pub stepped : Stepped k s program journal (r .number) after journal-after
-  pub shown : Put out at (printed k after program position (r .number)) out-after (r .at)
+  pub stepped : Stepped k facts s program journal (r .number) after journal-after
+  pub shown : Put out at (printed k facts after program position (r .number)) out-after (r .at)
 
 -- files of a legal length, and room for every line of their walk
 pub record Lent (k : ℕ) (z p out : List ℕ) : Type 0 where

@@ -1,4 +1,5 @@
 // The whole output of a walk: a session is read and stepped through, and its lines are written at the front of what the caller lends.
+use facts::Facts;
 use machine::Answer;
 use machine::Length;
 use machine::refusal;
@@ -33,6 +34,7 @@ fn step_line(
     out: &mut [u8],
     at: usize,
     k: usize,
+    facts: Facts,
     z: &mut [u8],
     p: &[u8],
     program: &[u8],
@@ -40,13 +42,22 @@ fn step_line(
     position: usize,
 ) -> Turn
     requires { ⌜ at + mostLine ≤ length (now out) ⌝ }
-    ensures { λ r. ⌜ Turned k (state (now (z .entry)) (now (p .entry))) (now (program .entry)) (now (journal .entry)) position at (now (out .entry)) r
+    ensures { λ r. ⌜ Turned k facts (state (now (z .entry)) (now (p .entry))) (now (program .entry)) (now (journal .entry)) position at (now (out .entry)) r
         (state (now (z .exit)) (now (p .entry)))
         (now (journal .exit))
         (now (out .exit)) ⌝ }
 {
-    let number = steps::step(k, z, p, program, journal);
-    let written = lines::write_line(&mut out[at..], k, z, p, program, position, number as u64);
+    let number = steps::step(k, facts, z, p, program, journal);
+    let written = lines::write_line(
+        &mut out[at..],
+        k,
+        facts,
+        z,
+        p,
+        program,
+        position,
+        number as u64,
+    );
     Turn {
         number,
         at: at + written.value as usize,
@@ -57,6 +68,7 @@ fn step_line(
 fn write_lines(
     out: &mut [u8],
     k: usize,
+    facts: Facts,
     z: &mut [u8],
     p: &[u8],
     program: &[u8],
@@ -64,14 +76,14 @@ fn write_lines(
 ) -> usize
     requires { ⌜ linesMost k (now journal) ≤ length (now out) ⌝ }
     ensures { λ r. ⌜ Put (now (out .entry)) 0
-        (linesFrom mostWords k (now (program .entry)) 0 (state (now (z .entry)) (now (p .entry))) (now (journal .entry)))
+        (linesFrom mostWords k facts (now (program .entry)) 0 (state (now (z .entry)) (now (p .entry))) (now (journal .entry)))
         (now (out .exit))
         r ⌝ }
 {
     let mut at = 0;
     let mut position = 0;
     while position < Length::MOST_WORDS {
-        let turn = step_line(out, at, k, z, p, program, journal, position);
+        let turn = step_line(out, at, k, facts, z, p, program, journal, position);
         at = turn.at;
         if turn.number != refusal::DONE {
             return at;
@@ -96,10 +108,10 @@ fn file_room() -> [u8; MOST_FILE]
 }
 
 // Walks a copy of the vector file with a fresh journal, and writes the lines at the front.
-fn write_walk(out: &mut [u8], k: usize, z: &[u8], p: &[u8], program: &[u8]) -> usize
+fn write_walk(out: &mut [u8], k: usize, facts: Facts, z: &[u8], p: &[u8], program: &[u8]) -> usize
     requires { ⌜ Lent k (now z) (now p) (now out) ⌝ }
     ensures { λ r. ⌜ Put (now (out .entry)) 0
-        (linesFrom mostWords k (now (program .entry)) 0 (state (now (z .entry)) (now (p .entry))) (walkJournal k))
+        (linesFrom mostWords k facts (now (program .entry)) 0 (state (now (z .entry)) (now (p .entry))) (walkJournal k))
         (now (out .exit))
         r ⌝ }
 {
@@ -107,10 +119,10 @@ fn write_walk(out: &mut [u8], k: usize, z: &[u8], p: &[u8], program: &[u8]) -> u
     journal::fresh(k, &mut journal);
     let mut file = file_room();
     let size = bytes::copy(z, &mut file);
-    write_lines(out, k, &mut file[..size], p, program, &mut journal)
+    write_lines(out, k, facts, &mut file[..size], p, program, &mut journal)
 }
 
-// Walks a session, and writes its lines at the front.
+// Walks a session on a core with its facts, and writes its lines at the front.
 fn write_session(out: &mut [u8], bytes: &[u8], session: Session) -> usize
     requires { ⌜ Given (now bytes) session (now out) ⌝ }
     ensures { λ r. ⌜ Put (now (out .entry)) 0 (sessionLines session (now (bytes .entry))) (now (out .exit)) r ⌝ }
@@ -122,6 +134,7 @@ fn write_session(out: &mut [u8], bytes: &[u8], session: Session) -> usize
     write_walk(
         out,
         session.k,
+        session.facts,
         &bytes[vectors..predicates],
         &bytes[predicates..program],
         &bytes[program..end],

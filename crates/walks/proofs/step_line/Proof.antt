@@ -7,6 +7,7 @@ use denote.Ref.{now}
 use lib.ListN.{length}
 use borrow.Author.Needs.{needs}
 use borrow.Rule.Slice.PartMut.{putMid, mid-len}
+use Rattle.facts.specs.declared.Facts.{Facts}
 use Rattle.registers.specs.State.{State, state}
 use Rattle.digits.specs.Put.{Put}
 use Rattle.lines.specs.Line.{mostLine}
@@ -25,27 +26,27 @@ start c = taken c .before .before .before .before .before .before .before .befor
 
 -- the files that the step left
 abbrev left : tie.After-write-line → State
-left c = state (taken c .step .last .1 .0) (now (start c .args .p))
+left c = state (taken c .step .last .1 .1 .0) (now (start c .args .p))
 
 -- what is printed is not longer than the longest line, and is written at the place
-few : (c : tie.After-write-line) → let a = start c .args in length (printed (a .k) (left c) (now (a .program)) (a .position) (taken c .step .result)) ≤ mostLine
-few c = let a = start c .args in printed-most (a .k) (left c) (now (a .program)) (a .position) (taken c .step .result)
+few : (c : tie.After-write-line) → let a = start c .args in length (printed (a .k) (a .facts) (left c) (now (a .program)) (a .position) (taken c .step .result)) ≤ mostLine
+few c = let a = start c .args in printed-most (a .k) (a .facts) (left c) (now (a .program)) (a .position) (taken c .step .result)
 
 shown : (c : tie.After-write-line) → let a = start c .args in
     let out = now (a .out) in
-    Put out (a .at) (printed (a .k) (left c) (now (a .program)) (a .position) (taken c .step .result))
+    Put out (a .at) (printed (a .k) (a .facts) (left c) (now (a .program)) (a .position) (taken c .step .result))
     (putMid (a .at) (length out - a .at) out (c .write-line .last .0))
     (a .at + c .write-line .result .value)
 shown c =
     let a = start c .args in
     let out = now (a .out) in
     put-from (a .at) out (omega arith) (omega (arith, few c))
-    (turn-put (a .k) (left c) (now (a .program)) (a .position) (taken c .step .result) _ _ (c .write-line .result)
+    (turn-put (a .k) (a .facts) (left c) (now (a .program)) (a .position) (taken c .step .result) _ _ (c .write-line .result)
     (omega (arith, mid-len (a .at) (length out) out (le-refl _)))
     (c .write-line .ensures))
 
-add-t22 : tie.Need-add-t22
-add-t22 c = omega (arith, shown (c .before .before) .after, few (c .before .before))
+add-t23 : tie.Need-add-t23
+add-t23 c = omega (arith, shown (c .before .before) .after, few (c .before .before))
 
 returns : tie.Need-returns
 returns c = record { stepped = taken (c .before .before) .step .ensures; shown = shown (c .before .before) }
@@ -60,7 +61,7 @@ step-line-spec =
     (λ c. search needs)
     (λ c. search needs)
     (λ c κs. search needs)
-    add-t22
+    add-t23
     (λ c. search needs)
     (λ c. search needs)
     (λ c. search needs)

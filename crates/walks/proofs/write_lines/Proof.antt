@@ -9,6 +9,7 @@ use denote.Ref.{now}
 use lib.ListN.{length}
 use borrow.Author.Needs.{needs}
 use Rattle.machine.specs.Size.{mostWords}
+use Rattle.facts.specs.declared.Facts.{Facts}
 use Rattle.registers.specs.State.{state}
 use Rattle.digits.specs.Put.{Put}
 use Rattle.digits.proofs.Puts.{put-then, put-none}
@@ -18,17 +19,17 @@ use Rattle.walks.proofs.write_lines.Statement.{statement}
 use Rattle.walks.proofs.write_lines.Tie as tie
 
 abbrev Inv-loop : tie.InvT-loop
-Inv-loop out₀ k z₀ p program journal₀ at₀ position₀ out z journal at position =
+Inv-loop out₀ k facts z₀ p program journal₀ at₀ position₀ out z journal at position =
     (position ≤ mostWords)
     × (at + linesMost k journal ≤ length out₀)
     × (length out ≡ length out₀)
     × (length z ≡ length z₀)
     × (length journal ≡ length journal₀)
-    × ((m : List ℕ) (r : ℕ) → Put out at (linesFrom (mostWords - position) k program position (state z p) journal) m r
-    → Put out₀ 0 (linesFrom mostWords k program 0 (state z₀ p) journal₀) m r)
+    × ((m : List ℕ) (r : ℕ) → Put out at (linesFrom (mostWords - position) k facts program position (state z p) journal) m r
+    → Put out₀ 0 (linesFrom mostWords k facts program 0 (state z₀ p) journal₀) m r)
 
 abbrev μ-loop : tie.MeasureT-loop
-μ-loop out₀ k z₀ p program journal₀ at₀ position₀ out z journal at position = mostWords - position
+μ-loop out₀ k facts z₀ p program journal₀ at₀ position₀ out z journal at position = mostWords - position
 
 -- where the step of a turn is done, and before it where the turn begins, the loop's place and where the function started
 abbrev turned : tie.After-struct-known Inv-loop μ-loop → tie.After-step-line Inv-loop μ-loop
@@ -59,7 +60,7 @@ returns c =
     l .inv .5 _ _
     (rw (
       left (l .position) (in-loop t .loop-test .taken),
-      lines-end _ (a .k) (now (a .program)) (l .position) (state (l .z) (now (a .p))) _ (l .journal) _ _ (turn .stepped) (c .if1 .taken),
+      lines-end _ (a .k) (a .facts) (now (a .program)) (l .position) (state (l .z) (now (a .p))) _ (l .journal) _ _ (turn .stepped) (c .if1 .taken),
     )
     (turn .shown))
 
@@ -71,14 +72,14 @@ loop-again c =
     let turn = t .step-line .ensures in
     let files = state (l .z) (now (a .p)) in (
       omega arith,
-      omega (arith, turn .shown .after, turn-room 0 (a .k) (now (a .program)) (l .position) files _ (l .journal) _ _ (turn .stepped) (c .if1 .left)),
+      omega (arith, turn .shown .after, turn-room 0 (a .k) (a .facts) (now (a .program)) (l .position) files _ (l .journal) _ _ (turn .stepped) (c .if1 .left)),
       search needs,
       search needs,
       search needs,
       λ m r h. l .inv .5 m r
           (rw (
             left (l .position) (in-loop t .loop-test .taken),
-            lines-more _ (a .k) (now (a .program)) (l .position) files _ (l .journal) _ _ (turn .stepped) (c .if1 .left),
+            lines-more _ (a .k) (a .facts) (now (a .program)) (l .position) files _ (l .journal) _ _ (turn .stepped) (c .if1 .left),
           )
           (put-then (turn .shown) h)),
     )

@@ -53,7 +53,7 @@ returns-3 c =
     let read = past .before .before in
     let input = now (begin (read .before) .args .bytes) in
     let s = read .read-session .result in
-    let fits = lines-most mostWords (s .k) (programPart s input) 0 (sessionState s input) (walkJournal (s .k)) in
+    let fits = lines-most mostWords (s .k) (s .facts) (programPart s input) 0 (sessionState s input) (walkJournal (s .k)) in
     written-done _ _ _ _ _ (sessionLines s input) _ refl (rw (le-ltb _ _ (room (read .before))))
     (output-session input s (read .read-session .ensures) (past .if2 .left))
     (omega (arith, fits, walk-room (s .k), room (read .before)))
