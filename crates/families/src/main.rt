@@ -1,4 +1,4 @@
-// Every family executed at three lengths, with the destination among the sources; each line is what a walk shows of the step.
+// Every family executed at three lengths on a core with all facts, with the destination among the sources; each line is what a walk shows of the step.
 use libc::STDOUT_FILENO;
 use machine::Length;
 ghost use Prim.Native.Nat.{_≤_};
@@ -14,7 +14,7 @@ fn show_filled(k: usize, z: &mut [u8], p: &mut [u8], program: &[u8]) {
     fillings::fill_vectors(z);
     fillings::fill_predicates(p);
     let number = fresh_step(k, z, p, program, &mut journal);
-    let line = lines::write_line(&mut out, k, z, p, program, 0, number as u64);
+    let line = lines::write_line(&mut out, k, facts::all(), z, p, program, 0, number as u64);
     let length = line.value as usize;
     if length <= lines::MOST_LINE {
         io::write_all(STDOUT_FILENO, &out[..length]);
@@ -24,7 +24,7 @@ fn show_filled(k: usize, z: &mut [u8], p: &mut [u8], program: &[u8]) {
 // Steps with a fresh journal.
 fn fresh_step(k: usize, z: &mut [u8], p: &[u8], program: &[u8], journal: &mut [u8]) -> u8 {
     journal::fresh(k, journal);
-    steps::step(k, z, p, program, journal)
+    steps::step(k, facts::all(), z, p, program, journal)
 }
 
 // Shows the step of a program's first word at a length.

@@ -1,4 +1,5 @@
-// A plain walk: words decoded and executed in turn, and the journal that they must leave, laid out here without the journal's code.
+// A plain walk on a core: words decoded and executed in turn, and the journal that they must leave, laid out here without the journal's code.
+use facts::Facts;
 use machine::Length;
 use machine::refusal;
 use registers::Kind;
@@ -53,11 +54,11 @@ fn walk_fields(f: Fields, k: usize, z: &mut [u8], p: &[u8], entry: &mut [u8]) ->
 }
 
 // Walks a word, and lays out its entry; false where the files are refused or the word is.
-fn walk_word(k: usize, z: &mut [u8], p: &[u8], word: u32, entry: &mut [u8]) -> bool {
+fn walk_word(k: usize, facts: Facts, z: &mut [u8], p: &[u8], word: u32, entry: &mut [u8]) -> bool {
     if machine::check_files(k, z, p) != refusal::DONE {
         return false;
     }
-    let decoded = words::decode(word);
+    let decoded = cores::decode(word, facts);
     match decoded {
         Decoded::Unknown => false,
         Decoded::Undefined => false,
@@ -68,6 +69,7 @@ fn walk_word(k: usize, z: &mut [u8], p: &[u8], word: u32, entry: &mut [u8]) -> b
 // Walks so many words of a program, and lays out their entries after the header; false where a word or the room for its entry is missing.
 fn walk_words(
     k: usize,
+    facts: Facts,
     z: &mut [u8],
     p: &[u8],
     program: &[u8],
@@ -88,7 +90,7 @@ fn walk_words(
             return false;
         }
         let word = programs::word_at(program, i);
-        if !walk_word(k, z, p, word, &mut journal[at..end]) {
+        if !walk_word(k, facts, z, p, word, &mut journal[at..end]) {
             return false;
         }
         at = end;
@@ -100,6 +102,7 @@ fn walk_words(
 // Walks so many words of a program, and lays out the journal that they leave.
 pub fn walk(
     k: usize,
+    facts: Facts,
     z: &mut [u8],
     p: &[u8],
     program: &[u8],
@@ -108,5 +111,5 @@ pub fn walk(
 ) -> bool
     requires { ⌜ k ≤ mostLength ⌝ }
 {
-    lay_header(journal, k, steps) && walk_words(k, z, p, program, journal, steps)
+    lay_header(journal, k, steps) && walk_words(k, facts, z, p, program, journal, steps)
 }

@@ -1,6 +1,7 @@
-// Names words and reads their texts back, and tries texts that no word reads as. Each line of a word has the word, the number that
+// Names words and reads their texts back, and tries texts that no word reads as, on a core with all facts; then the same on others. Each line of a word has the word, the number that
 // naming answers, and where that is 0 the text and the word that the text assembles to. Each line of a text has the number that
 // assembling answers and the text in brackets.
+use facts::Facts;
 use libc::STDOUT_FILENO;
 use machine::Length;
 use machine::refusal;
@@ -42,13 +43,13 @@ fn word_of(row: usize, size: u32, most: bool) -> u32
 // A word's line.
 fn show_word(word: u32) {
     let mut out = [0u8; names::LEAST_OUT];
-    let named = names::text(word, &mut out);
+    let named = names::text(word, facts::all(), &mut out);
     io::print_hex(STDOUT_FILENO, word as u64, 8);
     io::write_all(STDOUT_FILENO, b" ");
     io::print_decimal(STDOUT_FILENO, named.number as u64);
     if named.number == refusal::DONE {
         let count = named.value as usize;
-        let read = assembles::assemble(&out[..count]);
+        let read = assembles::assemble(&out[..count], facts::all());
         io::write_all(STDOUT_FILENO, b" ");
         io::write_all(STDOUT_FILENO, &out[..count]);
         io::write_all(STDOUT_FILENO, b" ");
@@ -65,10 +66,28 @@ fn show_row(row: usize) {
     }
 }
 
-// The lines of all rows.
+// The number that naming a word answers on a core whose facts a byte tells.
+fn number_on(byte: u8, word: u32) -> u8 {
+    let mut out = [0u8; names::LEAST_OUT];
+    names::text(word, facts::facts_of(byte), &mut out).number
+}
+
+// A row's line: its word of size 1, and the number that naming it answers on each core, whose facts are the bits of 0 to 31.
+fn show_needs(row: usize) {
+    let word = word_of(row, 1, false);
+    io::print_hex(STDOUT_FILENO, word as u64, 8);
+    io::write_all(STDOUT_FILENO, b" ");
+    for byte in 0..facts::ALL + 1 {
+        io::print_decimal(STDOUT_FILENO, number_on(byte, word) as u64);
+    }
+    io::write_all(STDOUT_FILENO, b"\n");
+}
+
+// The lines of all rows, on a core with all facts and then on each core.
 fn show_rows() {
     for row in 0..ROWS {
         show_row(row);
+        show_needs(row);
     }
 }
 
@@ -79,9 +98,14 @@ fn show_words() {
     }
 }
 
-// A text's line.
+// A text's line, on a core with all facts.
 fn show_text(text: &[u8]) {
-    let read = assembles::assemble(text);
+    show_text_on(facts::all(), text);
+}
+
+// A text's line on a core.
+fn show_text_on(facts: Facts, text: &[u8]) {
+    let read = assembles::assemble(text, facts);
     io::print_decimal(STDOUT_FILENO, read.number as u64);
     io::write_all(STDOUT_FILENO, b" [");
     io::write_all(STDOUT_FILENO, text);
@@ -139,8 +163,20 @@ fn show_misfits() {
 // A text of 10,000 bytes: its line has the number alone.
 fn show_long() {
     let text = [b'z'; 10000];
-    io::print_decimal(STDOUT_FILENO, assembles::assemble(&text).number as u64);
+    io::print_decimal(
+        STDOUT_FILENO,
+        assembles::assemble(&text, facts::all()).number as u64,
+    );
     io::write_all(STDOUT_FILENO, b"\n");
+}
+
+// Texts that some cores have and others do not.
+fn show_texts_on(facts: Facts) {
+    show_text_on(facts, b"saddv d0, p0, z1.b");
+    show_text_on(facts, b"addqv v0.16b, p0, z1.b");
+    show_text_on(facts, b"uaddlv h2, v1.8b");
+    show_text_on(facts, b"sadalp z0.h, p0/m, z1.b");
+    show_text_on(facts, b"usubwt z0.h, z1.h, z2.b");
 }
 
 fn main() {
@@ -149,4 +185,9 @@ fn main() {
     show_near_misses();
     show_misfits();
     show_long();
+    show_texts_on(facts::none());
+    show_texts_on(facts::facts_of(facts::bit::SVE));
+    show_texts_on(facts::facts_of(facts::bit::SVE2));
+    show_texts_on(facts::facts_of(facts::bit::SME));
+    show_texts_on(facts::facts_of(facts::bit::SME2P1));
 }

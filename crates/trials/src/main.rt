@@ -1,4 +1,5 @@
-// Long runs forward and back, each compared with a plain walk from the same start: every byte of the vector file and of the journal.
+// Long runs forward and back on a core, each compared with a plain walk from the same start: every byte of the vector file and of the journal.
+use facts::Facts;
 use libc::STDOUT_FILENO;
 use machine::Length;
 ghost use Prim.Native.Nat.{_≤_};
@@ -21,6 +22,7 @@ fn show_figure(figure: u64) {
 // Whether the bytes are those of a plain walk of so many words, made in the other buffers.
 fn is_walked(
     k: usize,
+    facts: Facts,
     z: &[u8],
     p: &[u8],
     program: &[u8],
@@ -32,14 +34,22 @@ fn is_walked(
     requires { ⌜ k ≤ mostLength ⌝ }
 {
     fillings::fill_vectors(plain_z);
-    if !plain::walk(k, plain_z, p, program, plain_journal, steps) {
+    if !plain::walk(k, facts, plain_z, p, program, plain_journal, steps) {
         return false;
     }
     check::same(plain_z, z) && check::same(plain_journal, journal)
 }
 
 // Whether the bytes are those of a plain walk of so many words.
-fn is_plain(k: usize, z: &[u8], p: &[u8], program: &[u8], journal: &[u8], steps: usize) -> bool
+fn is_plain(
+    k: usize,
+    facts: Facts,
+    z: &[u8],
+    p: &[u8],
+    program: &[u8],
+    journal: &[u8],
+    steps: usize,
+) -> bool
     requires { ⌜ k ≤ mostLength ⌝ }
 {
     let mut plain_z = [0u8; fillings::MOST_VECTORS];
@@ -49,6 +59,7 @@ fn is_plain(k: usize, z: &[u8], p: &[u8], program: &[u8], journal: &[u8], steps:
     if z_end <= fillings::MOST_VECTORS && room <= entries::MOST {
         return is_walked(
             k,
+            facts,
             z,
             p,
             program,
@@ -73,6 +84,7 @@ fn show_same(same: bool) {
 // Shows a run over filled buffers: how many steps of each direction are accepted, and whether all bytes are the plain walk's.
 fn show_steps(
     k: usize,
+    facts: Facts,
     z: &mut [u8],
     p: &[u8],
     program: &[u8],
@@ -82,38 +94,38 @@ fn show_steps(
     requires { ⌜ k ≤ mostLength ⌝ }
 {
     journal::fresh(k, journal);
-    let made = travel::travel(k, z, p, program, journal, directions);
+    let made = travel::travel(k, facts, z, p, program, journal, directions);
     show_figure(made.forward as u64);
     show_figure(made.back as u64);
     let mut same = false;
     if made.back <= made.forward {
-        same = is_plain(k, z, p, program, journal, made.forward - made.back);
+        same = is_plain(k, facts, z, p, program, journal, made.forward - made.back);
     }
     show_same(same);
 }
 
 // Shows a run over files, with a program and directions that it fills.
-fn show_files(k: usize, z: &mut [u8], p: &[u8], journal: &mut [u8])
+fn show_files(k: usize, facts: Facts, z: &mut [u8], p: &[u8], journal: &mut [u8])
     requires { ⌜ k ≤ mostLength ⌝ }
 {
     let mut program = [0u8; Length::WORD_BYTES * Length::MOST_WORDS];
     let mut directions = [0u8; DIRECTIONS];
     fillings::fill_words(&mut program);
     fillings::fill(&mut directions, DIRECTION_SEED, CHOICES);
-    show_steps(k, z, p, &program, journal, &directions);
+    show_steps(k, facts, z, p, &program, journal, &directions);
 }
 
 // Shows a run over files that it fills.
-fn show_filled(k: usize, z: &mut [u8], p: &mut [u8], journal: &mut [u8])
+fn show_filled(k: usize, facts: Facts, z: &mut [u8], p: &mut [u8], journal: &mut [u8])
     requires { ⌜ k ≤ mostLength ⌝ }
 {
     fillings::fill_vectors(z);
     fillings::fill_predicates(p);
-    show_files(k, z, p, journal);
+    show_files(k, facts, z, p, journal);
 }
 
 // Shows a run at a length over the bytes of a journal.
-fn show_journal(k: usize, journal: &mut [u8])
+fn show_journal(k: usize, facts: Facts, journal: &mut [u8])
     requires { ⌜ k ≤ mostLength ⌝ }
 {
     let length = Length { k };
@@ -121,32 +133,43 @@ fn show_journal(k: usize, journal: &mut [u8])
     let predicates = length.predicate_file();
     let mut z = [0u8; fillings::MOST_VECTORS];
     let mut p = [0u8; fillings::MOST_PREDICATES];
-    show_filled(k, &mut z[..vectors], &mut p[..predicates], journal);
+    show_filled(k, facts, &mut z[..vectors], &mut p[..predicates], journal);
 }
 
-// Shows a run at a length with a journal of so many bytes.
-fn show_run(k: usize, room: usize)
+// Shows a run at a length on a core whose facts a byte tells, with a journal of so many bytes.
+fn show_run(k: usize, byte: u8, room: usize)
     requires { ⌜ (k ≤ mostLength) × (room ≤ mostJournal) ⌝ }
 {
     let mut journal = [0u8; entries::MOST];
     show_figure(k as u64);
+    show_figure(byte as u64);
     show_figure(room as u64);
-    show_journal(k, &mut journal[..room]);
+    show_journal(k, facts::facts_of(byte), &mut journal[..room]);
 }
 
-// Shows runs at a length with a journal of no entry, of one entry less a byte, of one entry, and of the most bytes.
+// Shows runs at a length on a core with all facts, with a journal of no entry, of one entry less a byte, of one entry, and of the most bytes.
 fn show_length(k: usize)
     requires { ⌜ k ≤ mostLength ⌝ }
 {
     let entry = plain::HEADER + plain::NUMBER + Length { k }.vector_bytes();
-    show_run(k, plain::HEADER);
-    show_run(k, entry - 1);
-    show_run(k, entry);
-    show_run(k, entries::MOST);
+    show_run(k, facts::ALL, plain::HEADER);
+    show_run(k, facts::ALL, entry - 1);
+    show_run(k, facts::ALL, entry);
+    show_run(k, facts::ALL, entries::MOST);
+}
+
+// Shows runs on cores that lack something: each stops at the first word that its core does not accept, and goes on from there.
+fn show_cores() {
+    show_run(4, 0, entries::MOST);
+    show_run(4, facts::bit::SVE, entries::MOST);
+    show_run(4, facts::bit::SVE + facts::bit::SVE2, entries::MOST);
+    show_run(4, facts::bit::SME, entries::MOST);
+    show_run(4, facts::ALL - facts::bit::SVE, entries::MOST);
 }
 
 fn main() {
     show_length(Length::LEAST);
     show_length(4);
     show_length(Length::MOST);
+    show_cores();
 }

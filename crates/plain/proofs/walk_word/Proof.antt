@@ -5,6 +5,7 @@ use mathlib.Core.Path.{sym, _∙_}
 use denote.Ref.{now}
 use Rattle.machine.proofs.Checks.{files-checked}
 use Rattle.words.proofs.Encoding.{decoded-in-range}
+use Rattle.cores.proofs.Answers.{core-decodes}
 use Rattle.plain.proofs.walk_word.Statement.{statement}
 use Rattle.plain.proofs.walk_word.Tie as tie
 
@@ -21,7 +22,7 @@ walk-fields-requires c κs =
     let a = start files .args in
     record {
       lent = files-checked (a .k) (now (a .z)) (now (a .p)) _ (files .check-files .ensures) (decode .before .if1 .left);
-      fields = decoded-in-range (a .word) _ (sym (decode .decode .ensures) ∙ found .decoded .given .1);
+      fields = decoded-in-range (a .word) _ (core-decodes (a .facts) (a .word) _ (sym (decode .decode .ensures) ∙ found .decoded .given .1));
     }
 
 pub walk-word-spec : {M : Type 1} → statement M

@@ -9,11 +9,11 @@ use Rattle.plain.proofs.walk_words.Statement.{statement}
 use Rattle.plain.proofs.walk_words.Tie as tie
 
 abbrev Inv-loop : tie.InvT-loop
-Inv-loop k z₀ p program journal₀ steps bytes at₀ i₀ z journal at i =
+Inv-loop k facts z₀ p program journal₀ steps bytes at₀ i₀ z journal at i =
     (at ≤ at₀ + length journal₀) × (length z ≡ length z₀) × (length journal ≡ length journal₀)
 
 abbrev μ-loop : tie.MeasureT-loop
-μ-loop k z₀ p program journal₀ steps bytes at₀ i₀ z journal at i = steps - i
+μ-loop k facts z₀ p program journal₀ steps bytes at₀ i₀ z journal at i = steps - i
 
 pub walk-words-spec : {M : Type 1} → statement M
 walk-words-spec =

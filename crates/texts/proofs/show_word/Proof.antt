@@ -12,14 +12,14 @@ use Rattle.texts.proofs.show_word.Tie as tie
 
 -- the text fits the line
 short : (c : tie.After-text) → c .text .result .value ≤ mostText
-short c = named-most _ _ _ _ (c .text .ensures)
+short c = named-most _ _ _ _ _ (c .text .ensures)
 
 -- where the text is written, and where it is told done
 abbrev named : tie.Then1 → tie.After-text
 named c = c .before .before .before .before .before .before .before .before
 
 abbrev done : tie.After-assemble → tie.Then1
-done c = c .before .before
+done c = c .before .before .before
 
 -- the naming, from where the text is assembled and from where it is shown
 assembled : tie.Need-array-share-prefix-out
@@ -32,6 +32,7 @@ pub show-word-spec : {M : Type 1} → statement M
 show-word-spec =
     tie.close
     (tie.spec
+    (λ c κs. search needs)
     (λ c. search needs)
     (λ c κs. search needs)
     (λ c κs. search needs)
@@ -41,6 +42,7 @@ show-word-spec =
     (λ c κs. search needs)
     assembled
     (λ c. sym (length-take-le _ _ (assembled (c .before))))
+    (λ c κs. search needs)
     (λ c κs. search needs)
     (λ c. search needs)
     (λ c κs. search needs)
