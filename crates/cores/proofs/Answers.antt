@@ -32,29 +32,29 @@ unfolding decodedOn
 on-core facts word d is = ap (onCore facts) is
 
 -- a word is one that no core knows, one that none accepts, one that this core accepts, or one for which it lacks what is needed
-pub data Standing (facts : Facts) (word : ℕ) : Type 0 where
-  unknown : decoded word ≡ Unknown → decodedOn facts word ≡ Unknown → Standing facts word
-  undefined : decoded word ≡ Undefined → decodedOn facts word ≡ Undefined → Standing facts word
-  accepted : (f : Fields) → Granted facts word f → decodedOn facts word ≡ Word f → Standing facts word
-  lacking : Lacking facts word → decodedOn facts word ≡ Undefined → Standing facts word
+pub data Verdict (facts : Facts) (word : ℕ) : Type 0 where
+  unknown : decoded word ≡ Unknown → decodedOn facts word ≡ Unknown → Verdict facts word
+  undefined : decoded word ≡ Undefined → decodedOn facts word ≡ Undefined → Verdict facts word
+  accepted : (f : Fields) → Granted facts word f → decodedOn facts word ≡ Word f → Verdict facts word
+  lacking : Lacking facts word → decodedOn facts word ≡ Undefined → Verdict facts word
 
-pub standing : (facts : Facts) (word : ℕ) → Standing facts word
-standing facts word = by (decoded word) refl
+pub verdict : (facts : Facts) (word : ℕ) → Verdict facts word
+verdict facts word = by (decoded word) refl
   where
-    judge : (f : Fields) → decoded word ≡ Word f → (t : Bool) → has facts (needOf (f .row)) ≡ t → Standing facts word
+    judge : (f : Fields) → decoded word ≡ Word f → (t : Bool) → has facts (needOf (f .row)) ≡ t → Verdict facts word
     judge f is true e = accepted f (record { decodes = is; has-need = e }) (on-core facts word _ is ∙ granted-by facts f true e)
     judge f is false e = lacking (record { fields = f; decodes = is; lacks = e }) (on-core facts word _ is ∙ granted-by facts f false e)
 
-    by : (d : Decoded) → decoded word ≡ d → Standing facts word
+    by : (d : Decoded) → decoded word ≡ d → Verdict facts word
     by Unknown is = unknown is (on-core facts word _ is)
     by Undefined is = undefined is (on-core facts word _ is)
     by (Word f) is = judge f is _ refl
 
 -- accepted with these fields exactly where it decodes to them and the core has what its row needs
 pub accepted-exactly : (facts : Facts) (word : ℕ) (f : Fields) → decodedOn facts word ≡ Word f ↔ Granted facts word f
-accepted-exactly facts word f = (by (standing facts word), λ g. on-core facts word _ (g .decodes) ∙ granted-by facts f true (g .has-need))
+accepted-exactly facts word f = (by (verdict facts word), λ g. on-core facts word _ (g .decodes) ∙ granted-by facts f true (g .has-need))
   where
-    by : Standing facts word → decodedOn facts word ≡ Word f → Granted facts word f
+    by : Verdict facts word → decodedOn facts word ≡ Word f → Granted facts word f
     by (unknown _ is) h = absurd (omega (arith, ap numberOf (sym is ∙ h)))
     by (undefined _ is) h = absurd (omega (arith, ap numberOf (sym is ∙ h)))
     by (accepted g all is) h = let same : g ≡ f = ap fieldsOf (sym is ∙ h) in rw (← same) all
@@ -75,9 +75,9 @@ done-on facts word e = go (decodedOn facts word) refl e
 
 -- UNKNOWN comes exactly where it comes on any core
 pub unknown-on : (facts : Facts) (word : ℕ) → numberOf (decodedOn facts word) ≡ UNKNOWN ↔ numberOf (decoded word) ≡ UNKNOWN
-unknown-on facts word = go (standing facts word)
+unknown-on facts word = go (verdict facts word)
   where
-    go : Standing facts word → numberOf (decodedOn facts word) ≡ UNKNOWN ↔ numberOf (decoded word) ≡ UNKNOWN
+    go : Verdict facts word → numberOf (decodedOn facts word) ≡ UNKNOWN ↔ numberOf (decoded word) ≡ UNKNOWN
     go (unknown a b) = (λ _. ap numberOf a, λ _. ap numberOf b)
     go (undefined a b) = (λ e. absurd (omega (arith, ap numberOf b)), λ e. absurd (omega (arith, ap numberOf a)))
     go (accepted f g b) = (λ e. absurd (omega (arith, ap numberOf b)), λ e. absurd (omega (arith, ap numberOf (g .decodes))))
@@ -85,9 +85,9 @@ unknown-on facts word = go (standing facts word)
 
 -- UNDEFINED exactly where it comes on any core, or where this one lacks what the word's row needs
 pub undefined-on : (facts : Facts) (word : ℕ) → numberOf (decodedOn facts word) ≡ UNDEFINED ↔ ((numberOf (decoded word) ≡ UNDEFINED) ⊎ Lacking facts word)
-undefined-on facts word = (go (standing facts word), back)
+undefined-on facts word = (go (verdict facts word), back)
   where
-    go : Standing facts word → numberOf (decodedOn facts word) ≡ UNDEFINED → (numberOf (decoded word) ≡ UNDEFINED) ⊎ Lacking facts word
+    go : Verdict facts word → numberOf (decodedOn facts word) ≡ UNDEFINED → (numberOf (decoded word) ≡ UNDEFINED) ⊎ Lacking facts word
     go (unknown a b) e = absurd (omega (arith, ap numberOf b))
     go (undefined a b) e = inl (ap numberOf a)
     go (accepted f g b) e = absurd (omega (arith, ap numberOf b))

@@ -7,7 +7,7 @@ use native.Mathlib.Omega.{arith}
 use lib.Dec.{eqb}
 use Rattle.machine.proofs.Tests.{one-result}
 use Rattle.facts.specs.declared.Facts.{Facts}
-use Rattle.facts.specs.Facts.{factsOf, byteOf, allFacts, noFacts, allByte, isSet, weightOf}
+use Rattle.facts.specs.Facts.{factsOf, byteOf, allFacts, noFacts, allByte, hasBit, weightOf}
 
 -- two results that the contract of a public call allows are the same
 pub facts-of-determined : (byte : ℕ) (r s : Facts) → r ≡ factsOf byte → s ≡ factsOf byte → r ≡ s
@@ -31,7 +31,7 @@ digit-weighs zero bit h = omega arith
 digit-weighs (suc zero) bit h = omega arith
 digit-weighs (suc (suc n)) bit h = absurd (omega arith)
 
-set-weighs : (byte bit : ℕ) → weightOf (isSet byte bit) bit ≡ byte / bit % 2 * bit
+set-weighs : (byte bit : ℕ) → weightOf (hasBit byte bit) bit ≡ byte / bit % 2 * bit
 set-weighs byte bit = digit-weighs (byte / bit % 2) bit (omega arith)
 
 -- five digits, each the rest of half what was left, and what is left after them

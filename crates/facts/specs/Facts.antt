@@ -22,18 +22,18 @@ abbrev pub sme2p1Bit : ℕ
 sme2p1Bit = 2 ^ 4
 
 -- a bit of a byte is set
-abbrev pub isSet : ℕ → ℕ → Bool
-isSet byte bit = eqb (byte / bit % 2) 1
+abbrev pub hasBit : ℕ → ℕ → Bool
+hasBit byte bit = eqb (byte / bit % 2) 1
 
 -- the facts of a byte: its five low bits in their order
 unfoldable pub factsOf : ℕ → Facts
 factsOf byte =
     record {
-      sve = isSet byte sveBit;
-      sve2 = isSet byte sve2Bit;
-      sve2p1 = isSet byte sve2p1Bit;
-      sme = isSet byte smeBit;
-      sme2p1 = isSet byte sme2p1Bit;
+      sve = hasBit byte sveBit;
+      sve2 = hasBit byte sve2Bit;
+      sve2p1 = hasBit byte sve2p1Bit;
+      sme = hasBit byte smeBit;
+      sme2p1 = hasBit byte sme2p1Bit;
     }
 
 -- what a fact adds to a byte: its bit, where it holds

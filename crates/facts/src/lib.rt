@@ -1,7 +1,7 @@
 // What a core has, as five facts, and the byte that stands for them.
 ghost use mathlib.Core.Path.{_≡_};
 ghost use Prim.Native.Nat.{_<_};
-ghost use Rattle.facts.specs.Facts.{allFacts, noFacts, isSet, factsOf, byteOf, Weighed};
+ghost use Rattle.facts.specs.Facts.{allFacts, noFacts, hasBit, factsOf, byteOf, Weighed};
 
 pub mod bit;
 
@@ -44,9 +44,9 @@ pub fn none() -> Facts
 }
 
 // Whether a bit of a byte is set.
-fn is_set(byte: u8, bit: u8) -> bool
+fn has_bit(byte: u8, bit: u8) -> bool
     requires { ⌜ 0 < bit ⌝ }
-    ensures { λ r. ⌜ r ≡ isSet byte bit ⌝ }
+    ensures { λ r. ⌜ r ≡ hasBit byte bit ⌝ }
 {
     byte / bit % 2 == 1
 }
@@ -56,11 +56,11 @@ pub fn facts_of(byte: u8) -> Facts
     ensures { λ r. ⌜ r ≡ factsOf byte ⌝ }
 {
     Facts {
-        sve: is_set(byte, bit::SVE),
-        sve2: is_set(byte, bit::SVE2),
-        sve2p1: is_set(byte, bit::SVE2P1),
-        sme: is_set(byte, bit::SME),
-        sme2p1: is_set(byte, bit::SME2P1),
+        sve: has_bit(byte, bit::SVE),
+        sve2: has_bit(byte, bit::SVE2),
+        sve2p1: has_bit(byte, bit::SVE2P1),
+        sme: has_bit(byte, bit::SME),
+        sme2p1: has_bit(byte, bit::SME2P1),
     }
 }
 

@@ -5,7 +5,8 @@ use mathlib.Core.Path.{_≡_, ap}
 use mathlib.Core.List.{List}
 use Rattle.machine.proofs.Tests.{one-result}
 use Rattle.registers.specs.State.{State}
-use Rattle.words.specs.Decode.{decoded}
+use Rattle.facts.specs.Facts.{factsOf}
+use Rattle.cores.specs.Core.{decodedOn}
 use Rattle.names.specs.Named.{Named}
 use Rattle.names.proofs.Naming.{text-determined}
 use Rattle.assembles.specs.Assembled.{Assembled}
@@ -26,15 +27,15 @@ use Rattle.totals.specs.Written.{PanelWritten}
 use Rattle.ln.specs.Posts.{WordDecoded, WordRead, SessionRead, RegisterPlaced, Subtotalled, PositionTold}
 use Rattle.totals.proofs.Written.{panel-written-determined}
 
-pub ln-decode-determined : (word : ℕ) (r q : LnFields) → WordDecoded word r → WordDecoded word q → r ≡ q
-ln-decode-determined word = one-result (decodedOut (decoded word))
+pub ln-decode-determined : (word facts : ℕ) (r q : LnFields) → WordDecoded word facts r → WordDecoded word facts q → r ≡ q
+ln-decode-determined word facts = one-result (decodedOut (decodedOn (factsOf facts) word))
 
-pub ln-text-determined : (word : ℕ) (out a b : List ℕ) (r q : LnAnswer) → Named word out a (answerIn r) → Named word out b (answerIn q) → (r ≡ q) × (a ≡ b)
-ln-text-determined word out a b r q x y =
-    let (number, bytes) = text-determined word out a b (answerIn r) (answerIn q) x y in (ap answerOut number, bytes)
+pub ln-text-determined : (word facts : ℕ) (out a b : List ℕ) (r q : LnAnswer) → Named word (factsOf facts) out a (answerIn r) → Named word (factsOf facts) out b (answerIn q) → (r ≡ q) × (a ≡ b)
+ln-text-determined word facts out a b r q x y =
+    let (number, bytes) = text-determined word (factsOf facts) out a b (answerIn r) (answerIn q) x y in (ap answerOut number, bytes)
 
-pub ln-assemble-determined : (text : List ℕ) (r q : LnAnswer) → Assembled text (answerIn r) → Assembled text (answerIn q) → r ≡ q
-ln-assemble-determined text r q x y = ap answerOut (assemble-determined text (answerIn r) (answerIn q) x y)
+pub ln-assemble-determined : (text : List ℕ) (facts : ℕ) (r q : LnAnswer) → Assembled text (factsOf facts) (answerIn r) → Assembled text (factsOf facts) (answerIn q) → r ≡ q
+ln-assemble-determined text facts r q x y = ap answerOut (assemble-determined (factsOf facts) text (answerIn r) (answerIn q) x y)
 
 pub ln-read-word-determined : (program : List ℕ) (at : ℕ) (r q : LnWord) → WordRead program at r → WordRead program at q → r ≡ q
 ln-read-word-determined program at = one-result (wordOut (nextWord program at))
@@ -67,17 +68,17 @@ module _ (k : ℕ) (s : State) where
       → (r ≡ q) × (a ≡ b)
   ln-panel-determined = panel-written-determined k (s .z) (s .p)
 
-  pub ln-write-line-determined : (program : List ℕ) (position number : ℕ) (out a b : List ℕ) (r q : LnAnswer)
-      → LineWritten k s program position number out a (answerIn r)
-      → LineWritten k s program position number out b (answerIn q)
+  pub ln-write-line-determined : (facts : ℕ) (program : List ℕ) (position number : ℕ) (out a b : List ℕ) (r q : LnAnswer)
+      → LineWritten k (factsOf facts) s program position number out a (answerIn r)
+      → LineWritten k (factsOf facts) s program position number out b (answerIn q)
       → (r ≡ q) × (a ≡ b)
-  ln-write-line-determined program position number out a b r q x y =
+  ln-write-line-determined facts program position number out a b r q x y =
       let (answer, bytes) = line-determined _ (stepLine k s program position number) out a b (answerIn r) (answerIn q) x y in
       (ap answerOut answer, bytes)
 
-  pub ln-step-determined : (program journal : List ℕ) (r q : ℕ) (a b : State) (i j : List ℕ) → Stepped k s program journal r a i → Stepped k s program journal q b j
+  pub ln-step-determined : (facts : ℕ) (program journal : List ℕ) (r q : ℕ) (a b : State) (i j : List ℕ) → Stepped k (factsOf facts) s program journal r a i → Stepped k (factsOf facts) s program journal q b j
       → (r ≡ q) × (a ≡ b) × (i ≡ j)
-  ln-step-determined = step-determined k s
+  ln-step-determined facts = step-determined k (factsOf facts) s
 
   pub ln-back-determined : (journal : List ℕ) (r q : ℕ) (a b : State) (i j : List ℕ) → Backed k s journal r a i → Backed k s journal q b j
       → (r ≡ q) × (a ≡ b) × (i ≡ j)

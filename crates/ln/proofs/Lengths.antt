@@ -8,6 +8,7 @@ use mathlib.Core.List.{List}
 use Rattle.machine.specs.Size.{Legal}
 use Rattle.machine.specs.Refusal.{LENGTH, SESSION}
 use Rattle.machine.proofs.Legal.{illegal}
+use Rattle.facts.specs.declared.Facts.{Facts}
 use Rattle.registers.specs.State.{State}
 use Rattle.registers.specs.declared.Kind.{Kind}
 use Rattle.pane.specs.Drawn.{registerRefused}
@@ -38,17 +39,17 @@ module _ (k : ℕ) (none : Legal k → ⊥) where
   pub subtotal-length : (z p : List ℕ) (source governing size a b : ℕ) → subtotalRefused k z p source governing size a b ≡ LENGTH
   subtotal-length z p source governing size a b = rw (illegal k none)
 
-  pub step-length : (s : State) (program journal : List ℕ) → stepRefused k s program journal ≡ LENGTH
+  pub step-length : (facts : Facts) (s : State) (program journal : List ℕ) → stepRefused k facts s program journal ≡ LENGTH
   unfolding stepRefused
-  step-length s program journal = rw (illegal k none)
+  step-length facts s program journal = rw (illegal k none)
 
   pub back-length : (s : State) (journal : List ℕ) → backRefused k s journal ≡ LENGTH
   unfolding backRefused
   back-length s journal = rw (illegal k none)
 
-  pub line-length : (s : State) (program : List ℕ) (position number n : ℕ) → lineRefused k s program position number n ≡ LENGTH
+  pub line-length : (facts : Facts) (s : State) (program : List ℕ) (position number n : ℕ) → lineRefused k facts s program position number n ≡ LENGTH
   unfolding lineRefused
-  line-length s program position number n = rw (illegal k none)
+  line-length facts s program position number n = rw (illegal k none)
 
 pub session-length : (bytes : List ℕ) → (Legal (sessionLength bytes) → ⊥) → sessionOf bytes .number ≡ SESSION
 session-length bytes none = ⊎-elim (λ h. absurd (none (h .1 .legal))) (λ h. h .0) (session-exactly bytes)

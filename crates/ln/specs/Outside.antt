@@ -5,6 +5,7 @@ use mathlib.Core.List.{List}
 use lib.Dec.{eqb}
 use Rattle.machine.specs.Refusal.{unlessRefused}
 use Rattle.machine.specs.declared.Answer.{Answer}
+use Rattle.facts.specs.Facts.{byteOf}
 use Rattle.words.specs.Decode.{numberOf, fieldsOf}
 use Rattle.words.specs.declared.Decoded.{Decoded}
 use Rattle.words.specs.declared.Fields.{Fields}
@@ -64,7 +65,7 @@ placeFor k z p kind r = placeOut (registerRefused k z p kind r) k kind r
 abbrev pub wordOut : Next → LnWord
 wordOut n = record { number = n .number; word = n .word; at = n .at }
 
--- a session's length, count and places
+-- a session's length, count and places, and the byte of its facts
 abbrev pub sessionOut : Session → LnSession
 sessionOut s =
-    record { number = s .number; k = s .k; count = s .count; vectors = s .vectors; predicates = s .predicates; program = s .program }
+    record { number = s .number; k = s .k; count = s .count; vectors = s .vectors; predicates = s .predicates; program = s .program; facts = byteOf (s .facts) }

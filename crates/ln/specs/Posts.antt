@@ -2,7 +2,8 @@
 use Prim.Native.Nat.{ℕ}
 use mathlib.Core.Path.{_≡_}
 use mathlib.Core.List.{List}
-use Rattle.words.specs.Decode.{decoded}
+use Rattle.facts.specs.Facts.{factsOf}
+use Rattle.cores.specs.Core.{decodedOn}
 use Rattle.programs.specs.Word.{nextWord}
 use Rattle.totals.specs.Calls.{subtotalAnswer}
 use Rattle.journal.specs.Calls.{positionAnswer}
@@ -14,15 +15,15 @@ use Rattle.ln.specs.declared.LnSession.{LnSession}
 use Rattle.ln.specs.declared.LnWord.{LnWord}
 use Rattle.ln.specs.Outside.{isSet, answerOut, decodedOut, kindOf, placeFor, sessionOut, wordOut}
 
--- the number and the fields of a word
-abbrev pub WordDecoded : ℕ → LnFields → Type 0
-WordDecoded word r = r ≡ decodedOut (decoded word)
+-- the number and the fields of a word on a core whose facts a byte tells
+abbrev pub WordDecoded : ℕ → ℕ → LnFields → Type 0
+WordDecoded word facts r = r ≡ decodedOut (decodedOn (factsOf facts) word)
 
 -- a program's word at a place, and the place after it
 abbrev pub WordRead : List ℕ → ℕ → LnWord → Type 0
 WordRead program at r = r ≡ wordOut (nextWord program at)
 
--- a session's parts
+-- a session's parts and facts
 abbrev pub SessionRead : List ℕ → LnSession → Type 0
 SessionRead bytes r = r ≡ sessionOut (sessionOf bytes)
 

@@ -1,5 +1,6 @@
 // Callers that keep the contracts of the calls whose answer is a number: what a host is promised of the lent buffers, a call here promises
 // again from the call's contract alone, so a contract cut down to the number is refused here. No host calls them.
+ghost use Rattle.facts.specs.Facts.{factsOf};
 ghost use Rattle.registers.specs.State.{state};
 ghost use Rattle.journal.specs.Calls.{Freshened, Stepped};
 
@@ -11,10 +12,17 @@ pub(crate) fn held_fresh(k: usize, journal: &mut [u8]) -> u64
 }
 
 // A step by the host's call: the number, the state and every byte of the journal.
-pub(crate) fn held_step(k: usize, z: &mut [u8], p: &[u8], program: &[u8], journal: &mut [u8]) -> u64
-    ensures { λ r. ⌜ Stepped k (state (now (z .entry)) (now (p .entry))) (now (program .entry)) (now (journal .entry)) r
+pub(crate) fn held_step(
+    k: usize,
+    facts: u8,
+    z: &mut [u8],
+    p: &[u8],
+    program: &[u8],
+    journal: &mut [u8],
+) -> u64
+    ensures { λ r. ⌜ Stepped k (factsOf facts) (state (now (z .entry)) (now (p .entry))) (now (program .entry)) (now (journal .entry)) r
         (state (now (z .exit)) (now (p .entry)))
         (now (journal .exit)) ⌝ }
 {
-    crate::ln_step(k, z, p, program, journal)
+    crate::ln_step(k, facts, z, p, program, journal)
 }

@@ -1,9 +1,10 @@
-// The library in a host's hands: thin calls under one prefix, for C and Rust. A slice is a pointer and then a length.
+// The library in a host's hands: thin calls under one prefix, for C and Rust. A slice is a pointer and then a length; a core's facts are a byte.
 use machine::refusal;
 use registers::Kind;
 use words::Decoded;
 ghost use mathlib.Core.Path.{_≡_};
 ghost use Rattle.registers.specs.State.{state};
+ghost use Rattle.facts.specs.Facts.{factsOf};
 ghost use Rattle.words.specs.Decode.{noFields};
 ghost use Rattle.names.specs.Named.{Named};
 ghost use Rattle.assembles.specs.Assembled.{Assembled};
@@ -52,7 +53,7 @@ pub struct LnWord {
     pub at: u64,
 }
 
-// A session's length and count, and where its files and its program lie in the bytes; 0 with a refusal.
+// A session's length and count, where its files and its program lie in the bytes, and the byte of its facts; 0 with a refusal.
 #[repr(C)]
 pub struct LnSession {
     pub number: u64,
@@ -61,14 +62,15 @@ pub struct LnSession {
     pub vectors: u64,
     pub predicates: u64,
     pub program: u64,
+    pub facts: u64,
 }
 
-// A word's fields, or UNKNOWN or UNDEFINED.
+// A word's fields on a core, or UNKNOWN or UNDEFINED.
 #[no_mangle]
-pub extern "C" fn ln_decode(word: u32) -> LnFields
-    ensures { λ r. ⌜ WordDecoded word r ⌝ }
+pub extern "C" fn ln_decode(word: u32, facts: u8) -> LnFields
+    ensures { λ r. ⌜ WordDecoded word facts r ⌝ }
 {
-    match words::decode(word) {
+    match cores::decode(word, facts::facts_of(facts)) {
         Decoded::Word(f) => LnFields {
             number: refusal::DONE as u64,
             row: f.row as u64,
@@ -100,24 +102,24 @@ fn no_fields(number: u8) -> LnFields
     }
 }
 
-// A word's text at the front of the output, or OUT, UNKNOWN or UNDEFINED.
+// A word's text on a core at the front of the output, or OUT, UNKNOWN or UNDEFINED.
 #[no_mangle]
-pub extern "C" fn ln_text(word: u32, out: &mut [u8]) -> LnAnswer
-    ensures { λ r. ⌜ Named word (now (out .entry)) (now (out .exit)) (answerIn r) ⌝ }
+pub extern "C" fn ln_text(word: u32, facts: u8, out: &mut [u8]) -> LnAnswer
+    ensures { λ r. ⌜ Named word (factsOf facts) (now (out .entry)) (now (out .exit)) (answerIn r) ⌝ }
 {
-    let answer = names::text(word, out);
+    let answer = names::text(word, facts::facts_of(facts), out);
     LnAnswer {
         number: answer.number as u64,
         value: answer.value,
     }
 }
 
-// The accepted word that reads as a text, or TEXT.
+// The word that a core accepts and that reads as a text, or TEXT.
 #[no_mangle]
-pub extern "C" fn ln_assemble(text: &[u8]) -> LnAnswer
-    ensures { λ r. ⌜ Assembled (now (text .entry)) (answerIn r) ⌝ }
+pub extern "C" fn ln_assemble(text: &[u8], facts: u8) -> LnAnswer
+    ensures { λ r. ⌜ Assembled (now (text .entry)) (factsOf facts) (answerIn r) ⌝ }
 {
-    let answer = assembles::assemble(text);
+    let answer = assembles::assemble(text, facts::facts_of(facts));
     LnAnswer {
         number: answer.number as u64,
         value: answer.value,
@@ -160,7 +162,7 @@ pub extern "C" fn ln_read_word(program: &[u8], at: usize) -> LnWord
     }
 }
 
-// Where a session's parts lie, or SESSION.
+// Where a session's parts lie and the byte of its facts, or SESSION.
 #[no_mangle]
 pub extern "C" fn ln_read_session(bytes: &[u8]) -> LnSession
     ensures { λ r. ⌜ SessionRead (now (bytes .entry)) r ⌝ }
@@ -173,6 +175,7 @@ pub extern "C" fn ln_read_session(bytes: &[u8]) -> LnSession
         vectors: session.vectors as u64,
         predicates: session.predicates as u64,
         program: session.program as u64,
+        facts: facts::byte_of(session.facts) as u64,
     }
 }
 
@@ -181,15 +184,17 @@ pub extern "C" fn ln_read_session(bytes: &[u8]) -> LnSession
 pub extern "C" fn ln_write_line(
     out: &mut [u8],
     k: usize,
+    facts: u8,
     z: &[u8],
     p: &[u8],
     program: &[u8],
     position: usize,
     number: u64,
 ) -> LnAnswer
-    ensures { λ r. ⌜ LineWritten k (state (now (z .entry)) (now (p .entry))) (now (program .entry)) position number (now (out .entry)) (now (out .exit)) (answerIn r) ⌝ }
+    ensures { λ r. ⌜ LineWritten k (factsOf facts) (state (now (z .entry)) (now (p .entry))) (now (program .entry)) position number (now (out .entry)) (now (out .exit)) (answerIn r) ⌝ }
 {
-    let answer = lines::write_line(out, k, z, p, program, position, number);
+    let core = facts::facts_of(facts);
+    let answer = lines::write_line(out, k, core, z, p, program, position, number);
     LnAnswer {
         number: answer.number as u64,
         value: answer.value,
@@ -204,19 +209,20 @@ pub extern "C" fn ln_fresh(k: usize, journal: &mut [u8]) -> u64
     journal::fresh(k, journal) as u64
 }
 
-// Executes the word at the position and appends its entry, or LENGTH, FILE, PROGRAM, ROOM, JOURNAL, END, UNKNOWN, UNDEFINED or FULL.
+// Executes the word at the position on a core and appends its entry, or LENGTH, FILE, PROGRAM, ROOM, JOURNAL, END, UNKNOWN, UNDEFINED or FULL.
 #[no_mangle]
 pub extern "C" fn ln_step(
     k: usize,
+    facts: u8,
     z: &mut [u8],
     p: &[u8],
     program: &[u8],
     journal: &mut [u8],
 ) -> u64
-    ensures { λ r. ⌜ Stepped k (state (now (z .entry)) (now (p .entry))) (now (program .entry)) (now (journal .entry)) r
+    ensures { λ r. ⌜ Stepped k (factsOf facts) (state (now (z .entry)) (now (p .entry))) (now (program .entry)) (now (journal .entry)) r
         (state (now (z .exit)) (now (p .entry))) (now (journal .exit)) ⌝ }
 {
-    steps::step(k, z, p, program, journal) as u64
+    steps::step(k, facts::facts_of(facts), z, p, program, journal) as u64
 }
 
 // Takes the last step back, or LENGTH, FILE, ROOM, JOURNAL or EMPTY.

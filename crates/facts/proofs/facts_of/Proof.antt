@@ -9,11 +9,11 @@ use Rattle.facts.proofs.facts_of.Tie as tie
 returns : tie.Need-returns
 unfolding factsOf
 returns c = λ t. record {
-  sve = c .before .before .before .before .is-set .ensures t;
-  sve2 = c .before .before .before .is-set2 .ensures t;
-  sve2p1 = c .before .before .is-set3 .ensures t;
-  sme = c .before .is-set4 .ensures t;
-  sme2p1 = c .is-set5 .ensures t;
+  sve = c .before .before .before .before .has-bit .ensures t;
+  sve2 = c .before .before .before .has-bit2 .ensures t;
+  sve2p1 = c .before .before .has-bit3 .ensures t;
+  sme = c .before .has-bit4 .ensures t;
+  sme2p1 = c .has-bit5 .ensures t;
 }
 
 pub facts-of-spec : {M : Type 1} → statement M

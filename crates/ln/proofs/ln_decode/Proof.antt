@@ -1,24 +1,35 @@
--- `ln_decode` meets its contract: each answer of `decode` with its number and its fields.
+-- `ln_decode` meets its contract: each answer of `decode` with its number and its fields, of the core whose facts the byte tells.
 -- Assumes nothing.
-use mathlib.Core.Path.{sym, _∙_, ap}
+use mathlib.Core.Path.{_≡_, sym, _∙_, ap}
 use borrow.Author.Needs.{needs}
+use Rattle.facts.specs.declared.Facts.{Facts}
+use Rattle.facts.specs.Facts.{factsOf}
+use Rattle.words.specs.declared.Decoded.{Decoded}
+use Rattle.cores.specs.Core.{decodedOn}
 use Rattle.ln.specs.Outside.{decodedOut}
 use Rattle.ln.proofs.ln_decode.Statement.{statement}
 use Rattle.ln.proofs.ln_decode.Tie as tie
 
+-- what is told of an arm is told of the word
+told : (c : tie.After-decode) (arm : Decoded) → c .decode .result ≡ arm → let a = c .before .before .args in
+    decodedOut arm ≡ decodedOut (decodedOn (factsOf (a .facts)) (a .word))
+told c arm is =
+    ap decodedOut (sym is ∙ c .decode .ensures ∙ ap (λ (f : Facts). decodedOn f (c .before .before .args .word)) (c .before .facts-of .ensures))
+
 returns : tie.Need-returns
-returns c = ap decodedOut (sym (c .before .f .given .1) ∙ c .before .before .before .decode .ensures)
+returns c = told (c .before .before .before) _ (c .before .f .given .1)
 
 returns-2 : tie.Need-returns-2
-returns-2 c = c .no-fields .ensures ∙ ap decodedOut (sym (c .before .enum-told .given .1) ∙ c .before .before .before .decode .ensures)
+returns-2 c = c .no-fields .ensures ∙ told (c .before .before .before) _ (c .before .enum-told .given .1)
 
 returns-3 : tie.Need-returns-3
-returns-3 c = c .no-fields2 .ensures ∙ ap decodedOut (sym (c .before .enum-told2 .given .1) ∙ c .before .before .before .decode .ensures)
+returns-3 c = c .no-fields2 .ensures ∙ told (c .before .before .before) _ (c .before .enum-told2 .given .1)
 
 pub ln-decode-spec : {M : Type 1} → statement M
 ln-decode-spec =
     tie.close
     (tie.spec
+    (λ c κs. search needs)
     (λ c κs. search needs)
     (λ c. search needs)
     (λ c. search needs)
