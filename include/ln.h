@@ -1,8 +1,8 @@
 /* The engine of a vector-code viewer, for C and C++: decode, name, assemble, execute and un-execute
  * twenty-three of Arm's A64 adding and subtracting instructions. Link with libln.a (x86-64 Linux).
  *
- * Calls. No value has to be checked before a call: every call ends for every k, number, length and
- * content of the lent bytes, with LN_DONE or with a refusal. A refusal gives zero in place of every
+ * Calls. No value has to be checked before a call: every call ends for every k, number, facts, length
+ * and content of the lent bytes, with LN_DONE or with a refusal. A refusal gives zero in place of every
  * value (but struct ln_word keeps its place) and changes no lent byte. Refusals are tested in the order
  * of their numbers, except that LN_OUT is tested before LN_UNKNOWN.
  *
@@ -26,6 +26,23 @@
  *
  * A program is 0 to 256 words of four bytes, the lowest byte first: 04002020 is the bytes 20 20 00 04.
  *
+ * Facts. Which words a core has is told by five facts about it, the bits of a byte: enum ln_fact. None
+ * implies another: a core with SVE2 has LN_SVE | LN_SVE2, and one with SME alone LN_SME. The rows need
+ *
+ *     saddv, uaddv      LN_SVE or LN_SME
+ *     addqv             LN_SVE2P1 or LN_SME2P1
+ *     saddlv, uaddlv    nothing
+ *     all others        LN_SVE2 or LN_SME
+ *
+ * A word whose row needs what the facts lack is LN_UNDEFINED, as one whose size is not allowed. Facts
+ * never make a word LN_UNKNOWN, and what an accepted word does and how it reads does not depend on them.
+ * With LN_ALL_FACTS no word is refused for want of a fact. A call that takes facts looks at the bits of
+ * enum ln_fact alone: the three higher bits of the byte do not matter there and are not refused.
+ *
+ * The facts should stay the same from one step of a journal to the next. A step back needs no facts and
+ * is never refused for want of one. The promise that steps and steps back are undone word for word speaks
+ * of unchanged facts.
+ *
  * A journal is what steps back need. The caller lends it and ln_fresh writes it first:
  *
  *     byte 0   'L' 'N' 'J'
@@ -40,15 +57,29 @@
  * It is well formed if mark, version and k are right, the count is at most 256 and at most its room,
  * and each counted entry's number is at most 31. Bytes past the counted entries are not looked at.
  *
- * A session is files and a program to start from, and nothing more:
+ * A session is files and a program to start from, the facts of the core, and nothing more:
  *
  *     byte 0             'L' 'N' 'W'
  *     byte 3             version, 16 bits, the lower byte first: LN_SESSION_VERSION
  *     byte 5             k
  *     byte 6             number of words, 16 bits, the lower byte first
+ *     byte 8             facts
+ *     byte 9             vector file
+ *     byte 9 + 512k      predicate file
+ *     byte 9 + 544k      words
+ *
+ * Here the facts are stored and are tested: a session whose facts have a higher bit set, 5, 6 or 7, is
+ * refused. The former version, LN_FORMER_SESSION_VERSION, has no facts and means all five:
+ *
+ *     byte 0             'L' 'N' 'W'
+ *     byte 3             version, 16 bits, the lower byte first: LN_FORMER_SESSION_VERSION
+ *     byte 5             k
+ *     byte 6             number of words, 16 bits, the lower byte first
  *     byte 8             vector file
  *     byte 8 + 512k      predicate file
  *     byte 8 + 544k      words
+ *
+ * Both are read; every other version is refused.
  */
 #ifndef LN_H
 #define LN_H
@@ -61,11 +92,12 @@ extern "C" {
 #endif
 
 /* The version of this header and its library. It grows with every change that a program can notice. */
-#define LN_VERSION 5
+#define LN_VERSION 6
 
-/* The versions of the stored forms. */
+/* The versions of the stored forms; of a session the newest, and the former, which is read too. */
 #define LN_JOURNAL_VERSION 1
-#define LN_SESSION_VERSION 1
+#define LN_SESSION_VERSION 2
+#define LN_FORMER_SESSION_VERSION 1
 
 /* The answer numbers. Later versions may have more. */
 enum ln_number {
@@ -77,11 +109,11 @@ enum ln_number {
     LN_JOURNAL = 5,   /* journal not well formed */
     LN_END = 6,       /* the place is not below the number of words */
     LN_UNKNOWN = 7,   /* no row of the table matches the word */
-    LN_UNDEFINED = 8, /* a row matches, its size is not allowed */
+    LN_UNDEFINED = 8, /* a row matches; its size is not allowed, or the facts lack what it needs */
     LN_FULL = 9,      /* no further entry fits into the journal */
     LN_EMPTY = 10,    /* back with count 0 */
     LN_OUT = 11,      /* output too short */
-    LN_TEXT = 12,     /* not one of the accepted texts */
+    LN_TEXT = 12,     /* not one of the accepted texts, or one whose word the facts do not accept */
     LN_RANGE = 13,    /* a register, predicate, size or range of lanes that is not there */
     LN_SESSION = 14   /* not a session */
 };
@@ -118,6 +150,19 @@ enum ln_row {
     LN_USUBWT = 22
 };
 
+/* The facts about a core, to be joined by |. A row that names two needs one of them; rows LN_SADDLV and
+ * LN_UADDLV need none. None implies another: LN_SVE2 without LN_SVE does not give a core saddv. */
+enum ln_fact {
+    LN_SVE = 1,    /* or LN_SME: rows LN_SADDV and LN_UADDV */
+    LN_SVE2 = 2,   /* or LN_SME: the rows from LN_SADALP on */
+    LN_SVE2P1 = 4, /* or LN_SME2P1: row LN_ADDQV */
+    LN_SME = 8,
+    LN_SME2P1 = 16
+};
+
+/* All five. */
+#define LN_ALL_FACTS 31
+
 /* Sizes of the machine. */
 #define LN_LEAST_K 1
 #define LN_MOST_K 16
@@ -150,7 +195,8 @@ enum ln_row {
 #define LN_PANEL_ROWS 16
 #define LN_PANEL_ROW_BYTES 16
 #define LN_PANEL_BYTES 256
-#define LN_SESSION_HEADER_BYTES 8
+#define LN_SESSION_HEADER_BYTES 9
+#define LN_FORMER_SESSION_HEADER_BYTES 8
 
 /* The most bytes of stack that ln_step takes below its caller, with its return address and all that it
  * calls. It is measured, on the library's own code, and not proved. */
@@ -230,7 +276,8 @@ struct ln_word {
     uint64_t at;
 };
 
-/* A session's k and number of words, and where its three parts start, counted in bytes. */
+/* A session's k and number of words, where its three parts start, counted in bytes, and its facts:
+ * LN_ALL_FACTS for one of the former version. */
 struct ln_session {
     uint64_t number;
     uint64_t k;
@@ -238,16 +285,17 @@ struct ln_session {
     uint64_t vectors;
     uint64_t predicates;
     uint64_t program;
+    uint64_t facts;
 };
 
-/* The row and the fields of a word.
+/* The row and the fields of a word, on a core with these facts.
  * LN_UNKNOWN, LN_UNDEFINED. */
-struct ln_fields ln_decode(uint32_t word);
+struct ln_fields ln_decode(uint32_t word, uint8_t facts);
 
 /* Writes a word's text, without a terminating zero, to the start of `out`; the value is its length,
  * at most LN_LONGEST_TEXT, and the bytes past it stay.
  * LN_UNKNOWN, LN_UNDEFINED; before these LN_OUT: `out` has under 32 bytes. */
-struct ln_answer ln_text(uint32_t word, uint8_t *out, size_t out_len);
+struct ln_answer ln_text(uint32_t word, uint8_t facts, uint8_t *out, size_t out_len);
 
 /* The word that has this text, and nothing else: exactly as ln_text writes it. That is lower case, one
  * space after the name, a comma and one space between operands, decimal numbers without leading zeros,
@@ -261,21 +309,22 @@ struct ln_answer ln_text(uint32_t word, uint8_t *out, size_t out_len);
  *     saddlb zD.T, zN.H, zM.H      the other long rows alike
  *     saddwb zD.T, zN.T, zM.H      the other wide rows alike
  *
- * LN_TEXT: no accepted word has it. */
-struct ln_answer ln_assemble(const uint8_t *text, size_t text_len);
+ * LN_TEXT: no word has it that is accepted on a core with these facts. */
+struct ln_answer ln_assemble(const uint8_t *text, size_t text_len, uint8_t facts);
 
 /* Writes a fresh journal: the header with count 0, and zeros after it.
  * LN_LENGTH, LN_ROOM. */
 uint64_t ln_fresh(size_t k, uint8_t *journal, size_t journal_len);
 
 /* Executes the word at the journal's position and appends the destination's old bytes to the journal:
- * the position is one more then. `z` is the vector file, `p` the predicate file.
+ * the position is one more then. `z` is the vector file, `p` the predicate file. The facts should be
+ * those of the journal's other steps.
  * LN_LENGTH, LN_FILE, LN_PROGRAM, LN_ROOM, LN_JOURNAL, LN_END, LN_UNKNOWN, LN_UNDEFINED, LN_FULL. */
-uint64_t ln_step(size_t k, uint8_t *z, size_t z_len, const uint8_t *p, size_t p_len,
+uint64_t ln_step(size_t k, uint8_t facts, uint8_t *z, size_t z_len, const uint8_t *p, size_t p_len,
                  const uint8_t *program, size_t program_len, uint8_t *journal, size_t journal_len);
 
 /* Takes the last step back: restores the last entry's bytes, sets that entry to zeros and lowers the
- * count: the position is one less then.
+ * count: the position is one less then. It needs no facts.
  * LN_LENGTH, LN_FILE, LN_ROOM, LN_JOURNAL, LN_EMPTY. */
 uint64_t ln_back(size_t k, uint8_t *z, size_t z_len, const uint8_t *p, size_t p_len,
                  uint8_t *journal, size_t journal_len);
@@ -311,8 +360,9 @@ struct ln_answer ln_subtotal(size_t k, const uint8_t *z, size_t z_len, const uin
  * LN_PROGRAM, LN_END. */
 struct ln_word ln_read_word(const uint8_t *program, size_t program_len, size_t at);
 
-/* Where the parts of a session stand.
- * LN_SESSION: mark, version, k, word count or total length is wrong. */
+/* Where the parts of a session stand, and its facts.
+ * LN_SESSION: mark, version, k, word count or total length is wrong, or the facts have a higher bit
+ * set. */
 struct ln_session ln_read_session(const uint8_t *bytes, size_t bytes_len);
 
 /* Writes the line of the step at `position`, which answered `number` and left this vector file, at the
@@ -321,9 +371,10 @@ struct ln_session ln_read_session(const uint8_t *bytes, size_t bytes_len);
  * text and its destination register in hex, highest byte first, and after every other number the word in
  * eight hex digits. Fields are one space apart. It ends in a newline, and no zero follows.
  * LN_LENGTH, LN_FILE, LN_PROGRAM; LN_END: no word at `position`; LN_OUT: `out` has under LN_LONGEST_LINE
- * bytes; LN_UNKNOWN, LN_UNDEFINED: `number` is LN_DONE and the word is not accepted. */
-struct ln_answer ln_write_line(uint8_t *out, size_t out_len, size_t k, const uint8_t *z, size_t z_len,
-                               const uint8_t *p, size_t p_len, const uint8_t *program,
+ * bytes; LN_UNKNOWN, LN_UNDEFINED: `number` is LN_DONE and the word is not accepted on a core with these
+ * facts. After every other number the facts do not matter. */
+struct ln_answer ln_write_line(uint8_t *out, size_t out_len, size_t k, uint8_t facts, const uint8_t *z,
+                               size_t z_len, const uint8_t *p, size_t p_len, const uint8_t *program,
                                size_t program_len, size_t position, uint64_t number);
 
 #ifdef __cplusplus

@@ -1,9 +1,11 @@
-use ghishmadul::{assemble, Kind, Lanes, Machine, Refusal};
+use ghishmadul::{assemble, Facts, Kind, Lanes, Machine, Refusal};
 
 fn main() -> Result<(), Refusal> {
-    // Registers of 32 bytes, and a program of two words.
-    let words = [assemble("saddv d0, p0, z1.h")?, assemble("sadalp z2.s, p0/m, z1.h")?];
-    let mut machine = Machine::new(2, &words)?;
+    // A core with SVE2, registers of 32 bytes, and a program of two words.
+    let facts = Facts::SVE2;
+    let texts = ["saddv d0, p0, z1.h", "sadalp z2.s, p0/m, z1.h"];
+    let words = [assemble(texts[0], facts)?, assemble(texts[1], facts)?];
+    let mut machine = Machine::new(2, facts, &words)?;
 
     // Sixteen channels of 16 bits in Z1: 100, 99 and so on. P0 leaves channel 3 off: bit 6.
     for (channel, lane) in machine.register_mut(Kind::Vector, 1)?.chunks_exact_mut(2).enumerate() {

@@ -1,11 +1,11 @@
 use ghishmadul::{
     assemble, back, fresh, journal_bytes, position, predicate_file_bytes, step, vector_file_bytes,
-    Refusal,
+    Facts, Refusal,
 };
 
 fn main() -> Result<(), Refusal> {
-    // Registers of 32 bytes: Z1 holds ones, P0 governs every byte but the first.
-    let k = 2;
+    // A core with SVE and registers of 32 bytes: Z1 holds ones, P0 governs every byte but the first.
+    let (k, facts) = (2, Facts::SVE);
     let mut z = vec![0; vector_file_bytes(k)];
     let mut p = vec![0; predicate_file_bytes(k)];
     z[32..64].fill(1);
@@ -14,7 +14,7 @@ fn main() -> Result<(), Refusal> {
     // A program of two words.
     let mut program = Vec::new();
     for line in ["uaddv d1, p0, z1.b", "uaddv d0, p0, z1.b"] {
-        program.extend(assemble(line)?.to_le_bytes());
+        program.extend(assemble(line, facts)?.to_le_bytes());
     }
 
     // A journal with room for two entries.
@@ -22,11 +22,11 @@ fn main() -> Result<(), Refusal> {
     fresh(k, &mut journal)?;
 
     // Forward: Z1 is overwritten by the sum of its own active lanes.
-    step(k, &mut z, &p, &program, &mut journal)?;
+    step(k, facts, &mut z, &p, &program, &mut journal)?;
     println!("after a step Z1 begins {:?}", &z[32..36]);
     assert_eq!(z[32], 31);
-    step(k, &mut z, &p, &program, &mut journal)?;
-    let third = step(k, &mut z, &p, &program, &mut journal);
+    step(k, facts, &mut z, &p, &program, &mut journal)?;
+    let third = step(k, facts, &mut z, &p, &program, &mut journal);
     println!("a third step: {:?}", third);
     assert_eq!(third, Err(Refusal::End));
     assert_eq!(position(k, &journal), Ok(2));

@@ -3,12 +3,13 @@
 
 #include <stdio.h>
 
-#if LN_VERSION < 2
-#error "this example needs the calls of version 2"
+#if LN_VERSION < 6
+#error "this example needs the calls of version 6"
 #endif
 
 #define K 2
 #define CHANNELS 16
+#define FACTS (LN_SVE | LN_SVE2 | LN_SVE2P1)
 
 static uint8_t z[LN_VECTOR_FILE_BYTES(K)];
 static uint8_t p[LN_PREDICATE_FILE_BYTES(K)];
@@ -60,8 +61,9 @@ int main(void)
         }
     }
 
-    /* A program of one word, its lowest byte first. */
-    answer = ln_assemble((const uint8_t *)text, sizeof text - 1);
+    /* A program of one word, its lowest byte first. A core with SVE2 alone does not have it. */
+    told("assemble on SVE2", ln_assemble((const uint8_t *)text, sizeof text - 1, LN_SVE | LN_SVE2).number);
+    answer = ln_assemble((const uint8_t *)text, sizeof text - 1, FACTS);
     if (told("assemble", answer.number) != LN_DONE) {
         return 1;
     }
@@ -72,12 +74,15 @@ int main(void)
     told("fresh", ln_fresh(K, journal, sizeof journal));
     show_position();
     show_z0();
-    told("step", ln_step(K, z, sizeof z, p, sizeof p, program, sizeof program, journal, sizeof journal));
+    told("decode on SVE2", ln_decode((uint32_t)answer.value, LN_SVE | LN_SVE2).number);
+    told("step on SVE2", ln_step(K, LN_SVE | LN_SVE2, z, sizeof z, p, sizeof p, program, sizeof program, journal,
+                                 sizeof journal));
+    told("step", ln_step(K, FACTS, z, sizeof z, p, sizeof p, program, sizeof program, journal, sizeof journal));
     show_position();
     show_z0();
-    answer = ln_write_line(line, sizeof line, K, z, sizeof z, p, sizeof p, program, sizeof program, 0, LN_DONE);
+    answer = ln_write_line(line, sizeof line, K, FACTS, z, sizeof z, p, sizeof p, program, sizeof program, 0, LN_DONE);
     fwrite(line, 1, (size_t)answer.value, stdout);
-    told("step", ln_step(K, z, sizeof z, p, sizeof p, program, sizeof program, journal, sizeof journal));
+    told("step", ln_step(K, FACTS, z, sizeof z, p, sizeof p, program, sizeof program, journal, sizeof journal));
     told("back", ln_back(K, z, sizeof z, p, sizeof p, journal, sizeof journal));
     show_position();
     show_z0();

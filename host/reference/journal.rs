@@ -1,7 +1,7 @@
 //! The journal: fresh, step, back and the position.
 
 use crate::{checks, decode, execute::execute};
-use ghishmadul::Refusal;
+use ghishmadul::{Facts, Refusal};
 
 const HEADER: usize = 8;
 
@@ -39,6 +39,7 @@ pub fn fresh(k: usize, journal: &mut [u8]) -> Result<(), Refusal> {
 
 pub fn step(
     k: usize,
+    facts: Facts,
     z: &mut [u8],
     p: &[u8],
     program: &[u8],
@@ -49,7 +50,7 @@ pub fn step(
     checks::room(journal)?;
     let count = count(k, journal)?;
     let word = program.chunks_exact(4).nth(count).ok_or(Refusal::End)?;
-    let fields = decode(u32::from_le_bytes([word[0], word[1], word[2], word[3]]))?;
+    let fields = decode(u32::from_le_bytes([word[0], word[1], word[2], word[3]]), facts)?;
     let (head, entries) = journal.split_at_mut(HEADER);
     let entry = entries.chunks_exact_mut(entry_bytes(k)).nth(count).ok_or(Refusal::Full)?;
 

@@ -3,6 +3,7 @@
 
 mod checks;
 mod execute;
+mod facts;
 mod journal;
 mod lanes;
 mod names;
@@ -10,6 +11,7 @@ mod pane;
 mod session;
 mod words;
 
+pub use facts::{facts_of, ALL, HIGHER};
 pub use journal::{back, fresh, position, step};
 pub use names::{assemble, text};
 pub use pane::{panel, read_word, register_place, subtotal};

@@ -1,17 +1,18 @@
 //! How a word reads, and reading it.
 
 use crate::decode;
+use crate::facts::suffice;
 use crate::words::{Form, TABLE};
-use ghishmadul::Refusal;
+use ghishmadul::{Facts, Refusal};
 use std::io::Write;
 
 const LETTERS: [char; 4] = ['b', 'h', 's', 'd'];
 
-pub fn text(word: u32, out: &mut [u8]) -> Result<usize, Refusal> {
+pub fn text(word: u32, facts: Facts, out: &mut [u8]) -> Result<usize, Refusal> {
     if out.len() < 32 {
         return Err(Refusal::Out);
     }
-    let fields = decode(word)?;
+    let fields = decode(word, facts)?;
     let row = &TABLE[fields.row];
     let (name, size, d, g, n, m) = (row.name, fields.size, fields.d, fields.g, fields.n, fields.m);
     let letter = LETTERS[size];
@@ -40,13 +41,14 @@ pub fn text(word: u32, out: &mut [u8]) -> Result<usize, Refusal> {
     Ok(room - rest.len())
 }
 
-pub fn assemble(text: &[u8]) -> Result<u32, Refusal> {
-    std::str::from_utf8(text).ok().and_then(parse).ok_or(Refusal::Text)
+pub fn assemble(text: &[u8], facts: Facts) -> Result<u32, Refusal> {
+    std::str::from_utf8(text).ok().and_then(|text| parse(text, facts)).ok_or(Refusal::Text)
 }
 
-fn parse(text: &str) -> Option<u32> {
+fn parse(text: &str, facts: Facts) -> Option<u32> {
     let (name, rest) = text.split_once(' ')?;
-    let row = TABLE.iter().find(|row| row.name == name)?;
+    let number = TABLE.iter().position(|row| row.name == name)?;
+    let row = &TABLE[number];
     let mut operands = rest.split(", ");
     let mut next = || operands.next();
 
@@ -100,7 +102,7 @@ fn parse(text: &str) -> Option<u32> {
             (size, 0, m << 16 | n << 5 | d)
         }
     };
-    if next().is_some() || !row.allows(size, q) {
+    if next().is_some() || !row.allows(size, q) || !suffice(facts, number) {
         return None;
     }
     Some(row.word((q as u32) << 30 | (size as u32) << 22 | fields))

@@ -1,19 +1,26 @@
 //! The session that `walk` reads, and the lines that it writes.
 
-use crate::{checks, decode, fresh, read_word, step, text};
-use ghishmadul::{Refusal, Session};
+use crate::{checks, decode, facts_of, fresh, read_word, step, text, ALL, HIGHER};
+use ghishmadul::{Facts, Refusal, Session};
 use std::fmt::Write;
 
 pub fn read_session(bytes: &[u8]) -> Result<Session, Refusal> {
     let header = bytes.get(..8).ok_or(Refusal::Session)?;
     let k = header[5] as usize;
     let count = u16::from_le_bytes([header[6], header[7]]) as usize;
-    let well_formed = header[..5] == *b"LNW\x01\x00"
-        && checks::is_length(k)
+    // Where the vector file starts, and the byte of the facts.
+    let (start, facts) = match &header[..5] {
+        b"LNW\x01\x00" => (8, ALL),
+        b"LNW\x02\x00" => (9, *bytes.get(8).ok_or(Refusal::Session)?),
+        _ => return Err(Refusal::Session),
+    };
+    let well_formed = checks::is_length(k)
         && count <= 256
-        && bytes.len() == 8 + 544 * k + 4 * count;
+        && facts & HIGHER == 0
+        && bytes.len() == start + 544 * k + 4 * count;
     if well_formed {
-        Ok(Session { k, count, vectors: 8, predicates: 8 + 512 * k, program: 8 + 544 * k })
+        let (predicates, program) = (start + 512 * k, start + 544 * k);
+        Ok(Session { k, count, vectors: start, predicates, program, facts: facts_of(facts) })
     } else {
         Err(Refusal::Session)
     }
@@ -25,7 +32,7 @@ pub fn walk(input: &[u8]) -> String {
         Ok(session) => session,
         Err(_) => return "14\n".to_string(),
     };
-    let k = session.k;
+    let (k, facts) = (session.k, session.facts);
     let mut z = input[session.vectors..session.predicates].to_vec();
     let p = &input[session.predicates..session.program];
     let program = &input[session.program..];
@@ -35,8 +42,8 @@ pub fn walk(input: &[u8]) -> String {
     let mut output = String::new();
     for position in 0..session.count {
         let word = read_word(program, position).expect("the place is below the count").word;
-        let answer = step(k, &mut z, p, program, &mut journal);
-        output += &line(k, &z, word, position, answer);
+        let answer = step(k, facts, &mut z, p, program, &mut journal);
+        output += &line(k, facts, &z, word, position, answer);
         if answer.is_err() {
             break;
         }
@@ -45,13 +52,20 @@ pub fn walk(input: &[u8]) -> String {
 }
 
 /// One line of a walk, from the files after the step.
-pub fn line(k: usize, z: &[u8], word: u32, position: usize, answer: Result<(), Refusal>) -> String {
+pub fn line(
+    k: usize,
+    facts: Facts,
+    z: &[u8],
+    word: u32,
+    position: usize,
+    answer: Result<(), Refusal>,
+) -> String {
     match answer {
         Err(refusal) => format!("{} {} {:08x}\n", position, refusal.number(), word),
         Ok(()) => {
-            let fields = decode(word).expect("an accepted word");
+            let fields = decode(word, facts).expect("an accepted word");
             let mut out = [0; 32];
-            let length = text(word, &mut out).expect("an accepted word");
+            let length = text(word, facts, &mut out).expect("an accepted word");
             let name = std::str::from_utf8(&out[..length]).expect("a text is ASCII");
             let mut line = format!("{} 0 {} ", position, name);
             for byte in z[fields.d * 16 * k..][..16 * k].iter().rev() {
@@ -63,9 +77,11 @@ pub fn line(k: usize, z: &[u8], word: u32, position: usize, answer: Result<(), R
 }
 
 /// The line of a step at the front of the output.
+#[allow(clippy::too_many_arguments)]
 pub fn write_line(
     out: &mut [u8],
     k: usize,
+    facts: Facts,
     z: &[u8],
     p: &[u8],
     program: &[u8],
@@ -78,9 +94,9 @@ pub fn write_line(
         return Err(Refusal::Out);
     }
     if answer.is_ok() {
-        decode(word)?;
+        decode(word, facts)?;
     }
-    let text = line(k, z, word, position, answer);
+    let text = line(k, facts, z, word, position, answer);
     out[..text.len()].copy_from_slice(text.as_bytes());
     Ok(text.len())
 }

@@ -1,6 +1,7 @@
 //! The twenty-three words.
 
-use ghishmadul::{Fields, Refusal};
+use crate::facts::suffice;
+use ghishmadul::{Facts, Fields, Refusal};
 
 /// What the words of a row have in common.
 #[derive(Clone, Copy, PartialEq, Eq)]
@@ -90,11 +91,11 @@ impl Row {
     }
 }
 
-pub fn decode(word: u32) -> Result<Fields, Refusal> {
+pub fn decode(word: u32, facts: Facts) -> Result<Fields, Refusal> {
     let row = TABLE.iter().position(|row| row.matches(word)).ok_or(Refusal::Unknown)?;
     let field = |low: u32, bits: u32| (word >> low) as usize & ((1 << bits) - 1);
     let (size, q) = (field(22, 2), field(30, 1));
-    if !TABLE[row].allows(size, q) {
+    if !TABLE[row].allows(size, q) || !suffice(facts, row) {
         return Err(Refusal::Undefined);
     }
     // A field that the row does not have is 0.

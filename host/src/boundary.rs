@@ -1,7 +1,8 @@
 //! The engine's boundary, as `include/ln.h` has it: the only place where it is declared to Rust.
 //!
 //! A part is lent as a pointer and a length; the header says what its caller owes. The safe functions
-//! of this crate lend slices; call these only where that does not serve.
+//! of this crate lend slices; call these only where that does not serve. Facts are a byte here, and its
+//! three higher bits do not matter.
 
 /// A number and, if it is 0, a value.
 #[repr(C)]
@@ -61,7 +62,7 @@ pub struct Word {
     pub at: u64,
 }
 
-/// A session's length and number of words, and where its parts start; 0 with a refusal.
+/// A session's length and number of words, where its parts start, and its facts; 0 with a refusal.
 #[repr(C)]
 #[derive(Clone, Copy, Debug)]
 pub struct Session {
@@ -77,18 +78,20 @@ pub struct Session {
     pub predicates: u64,
     /// The first byte of the words.
     pub program: u64,
+    /// The facts, all five for the former version.
+    pub facts: u64,
 }
 
 #[link(name = "ln", kind = "static")]
 extern "C" {
     /// The row and the fields of a word.
-    pub fn ln_decode(word: u32) -> Fields;
+    pub fn ln_decode(word: u32, facts: u8) -> Fields;
 
     /// Writes a word's text to the start of `out`.
-    pub fn ln_text(word: u32, out: *mut u8, out_len: usize) -> Answer;
+    pub fn ln_text(word: u32, facts: u8, out: *mut u8, out_len: usize) -> Answer;
 
     /// The word that has this text.
-    pub fn ln_assemble(text: *const u8, text_len: usize) -> Answer;
+    pub fn ln_assemble(text: *const u8, text_len: usize, facts: u8) -> Answer;
 
     /// Writes a fresh journal.
     pub fn ln_fresh(k: usize, journal: *mut u8, journal_len: usize) -> u64;
@@ -96,6 +99,7 @@ extern "C" {
     /// Executes the word at the journal's position.
     pub fn ln_step(
         k: usize,
+        facts: u8,
         z: *mut u8,
         z_len: usize,
         p: *const u8,
@@ -171,6 +175,7 @@ extern "C" {
         out: *mut u8,
         out_len: usize,
         k: usize,
+        facts: u8,
         z: *const u8,
         z_len: usize,
         p: *const u8,

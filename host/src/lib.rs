@@ -16,13 +16,18 @@
 //! is whole 32-bit words, at most 256 of them. The position is the number of steps that were made and
 //! not taken back, and so the number of the next word. `include/ln.h` has the layouts of journals and
 //! sessions.
+//!
+//! Which words are accepted depends on the core: its [`Facts`] are given to the calls that decode. A word
+//! that the facts do not accept is [`Refusal::Undefined`], and its text [`Refusal::Text`].
 
 #![deny(missing_docs)]
 
 pub mod boundary;
+mod facts;
 mod machine;
 mod refusal;
 
+pub use facts::Facts;
 pub use machine::Machine;
 pub use refusal::Refusal;
 
@@ -50,6 +55,14 @@ pub const LEAST_TEXT_OUT: usize = 32;
 pub const LONGEST_LINE: usize = 546;
 /// The bytes of a panel.
 pub const PANEL_BYTES: usize = 256;
+/// The newest version of a session.
+pub const SESSION_VERSION: usize = 2;
+/// The version before it, which is read too: it has no facts and means all of them.
+pub const FORMER_SESSION_VERSION: usize = 1;
+/// The bytes of a session before its vector file.
+pub const SESSION_HEADER_BYTES: usize = 9;
+/// Those of a session of the former version.
+pub const FORMER_SESSION_HEADER_BYTES: usize = 8;
 /// The most bytes of stack that the library's step takes below its caller: measured, not proved.
 /// What [`step`] itself adds is the compiler's.
 pub const STEP_STACK: usize = 320;
@@ -130,7 +143,7 @@ pub struct Word {
     pub at: usize,
 }
 
-/// A session's length and number of words, and where its parts start.
+/// A session's length and number of words, where its parts start, and the facts of its core.
 #[derive(Clone, Copy, Debug, PartialEq, Eq)]
 pub struct Session {
     /// The length.
@@ -143,6 +156,8 @@ pub struct Session {
     pub predicates: usize,
     /// The first byte of the words.
     pub program: usize,
+    /// The facts; [`Facts::ALL`] for a session of the former version.
+    pub facts: Facts,
 }
 
 /// The lanes of a vector register at a size, and the predicate register that governs them.
@@ -156,14 +171,14 @@ pub struct Lanes {
     pub size: usize,
 }
 
-/// The row and the fields of a word.
+/// The row and the fields of a word, on a core with these facts.
 ///
 /// Refused: [`Refusal::Unknown`], [`Refusal::Undefined`].
 ///
 #[doc = concat!("```\n", include_str!("../examples/words.rs"), "```")]
 #[inline]
-pub fn decode(word: u32) -> Result<Fields, Refusal> {
-    let fields = unsafe { boundary::ln_decode(word) };
+pub fn decode(word: u32, facts: Facts) -> Result<Fields, Refusal> {
+    let fields = unsafe { boundary::ln_decode(word, facts.byte()) };
     Refusal::check(fields.number)?;
     Ok(Fields {
         row: fields.row as usize,
@@ -181,8 +196,8 @@ pub fn decode(word: u32) -> Result<Fields, Refusal> {
 /// Refused: [`Refusal::Out`] where `out` has under 32 bytes, then [`Refusal::Unknown`] and
 /// [`Refusal::Undefined`]. The example is [`decode`]'s.
 #[inline]
-pub fn text(word: u32, out: &mut [u8]) -> Result<usize, Refusal> {
-    let answer = unsafe { boundary::ln_text(word, out.as_mut_ptr(), out.len()) };
+pub fn text(word: u32, facts: Facts, out: &mut [u8]) -> Result<usize, Refusal> {
+    let answer = unsafe { boundary::ln_text(word, facts.byte(), out.as_mut_ptr(), out.len()) };
     Refusal::check(answer.number)?;
     Ok(answer.value as usize)
 }
@@ -190,20 +205,20 @@ pub fn text(word: u32, out: &mut [u8]) -> Result<usize, Refusal> {
 /// A word's text.
 ///
 /// Refused: [`Refusal::Unknown`], [`Refusal::Undefined`]. The example is [`decode`]'s.
-pub fn text_of(word: u32) -> Result<String, Refusal> {
+pub fn text_of(word: u32, facts: Facts) -> Result<String, Refusal> {
     let mut out = [0; LEAST_TEXT_OUT];
-    let length = text(word, &mut out)?;
+    let length = text(word, facts, &mut out)?;
     Ok(String::from_utf8_lossy(&out[..length]).into_owned())
 }
 
 /// The word that has this text, exactly as [`text`] writes it: another space, letter case or number
 /// with leading zeros is refused.
 ///
-/// Refused: [`Refusal::Text`] where no accepted word has it. The example is [`decode`]'s.
+/// Refused: [`Refusal::Text`] where no word has it that these facts accept. The example is [`decode`]'s.
 #[inline]
-pub fn assemble(text: impl AsRef<[u8]>) -> Result<u32, Refusal> {
+pub fn assemble(text: impl AsRef<[u8]>, facts: Facts) -> Result<u32, Refusal> {
     let text = text.as_ref();
-    let answer = unsafe { boundary::ln_assemble(text.as_ptr(), text.len()) };
+    let answer = unsafe { boundary::ln_assemble(text.as_ptr(), text.len(), facts.byte()) };
     Refusal::check(answer.number)?;
     Ok(answer.value as u32)
 }
@@ -217,6 +232,7 @@ pub fn fresh(k: usize, journal: &mut [u8]) -> Result<(), Refusal> {
 }
 
 /// Executes the word at the journal's position, and appends the destination's old bytes to the journal.
+/// The facts should be those of the journal's other steps; a [`Machine`] has one set of facts for all.
 ///
 /// Refused: [`Refusal::Length`], [`Refusal::File`], [`Refusal::Program`], [`Refusal::Room`],
 /// [`Refusal::Journal`], [`Refusal::End`], [`Refusal::Unknown`], [`Refusal::Undefined`],
@@ -226,6 +242,7 @@ pub fn fresh(k: usize, journal: &mut [u8]) -> Result<(), Refusal> {
 #[inline]
 pub fn step(
     k: usize,
+    facts: Facts,
     z: &mut [u8],
     p: &[u8],
     program: &[u8],
@@ -234,6 +251,7 @@ pub fn step(
     Refusal::check(unsafe {
         boundary::ln_step(
             k,
+            facts.byte(),
             z.as_mut_ptr(),
             z.len(),
             p.as_ptr(),
@@ -246,7 +264,7 @@ pub fn step(
     })
 }
 
-/// Takes the last step back.
+/// Takes the last step back. It needs no facts.
 ///
 /// Refused: [`Refusal::Length`], [`Refusal::File`], [`Refusal::Room`], [`Refusal::Journal`],
 /// [`Refusal::Empty`]. The example is [`step`]'s.
@@ -406,9 +424,10 @@ pub fn read_word(program: &[u8], at: usize) -> Result<Word, Refusal> {
     Ok(Word { word: word.word as u32, at: word.at as usize })
 }
 
-/// Where the parts of a session stand.
+/// Where the parts of a session stand, and its facts.
 ///
-/// Refused: [`Refusal::Session`] where mark, version, k, word count or total length is wrong.
+/// Refused: [`Refusal::Session`] where mark, version, k, word count or total length is wrong, or where the
+/// facts have a higher bit set.
 ///
 #[doc = concat!("```\n", include_str!("../examples/session.rs"), "```")]
 #[inline]
@@ -421,6 +440,7 @@ pub fn read_session(bytes: &[u8]) -> Result<Session, Refusal> {
         vectors: session.vectors as usize,
         predicates: session.predicates as usize,
         program: session.program as usize,
+        facts: Facts::from_byte(session.facts as u8),
     })
 }
 
@@ -429,11 +449,13 @@ pub fn read_session(bytes: &[u8]) -> Result<Session, Refusal> {
 ///
 /// Refused: [`Refusal::Length`], [`Refusal::File`], [`Refusal::Program`], [`Refusal::End`],
 /// [`Refusal::Out`] where `out` has under [`LONGEST_LINE`] bytes, [`Refusal::Unknown`] and
-/// [`Refusal::Undefined`] where the answer is done and the word is not accepted.
+/// [`Refusal::Undefined`] where the answer is done and these facts do not accept the word.
+#[allow(clippy::too_many_arguments)]
 #[inline]
 pub fn write_line(
     out: &mut [u8],
     k: usize,
+    facts: Facts,
     z: &[u8],
     p: &[u8],
     program: &[u8],
@@ -446,6 +468,7 @@ pub fn write_line(
             out.as_mut_ptr(),
             out.len(),
             k,
+            facts.byte(),
             z.as_ptr(),
             z.len(),
             p.as_ptr(),

@@ -2,7 +2,7 @@
 
 use crate::{
     back, fresh, position, predicate_file_bytes, read_session, read_word, register, register_place,
-    rows, step, subtotal, text_of, vector_bytes, vector_file_bytes, write_line, Kind, Lanes,
+    rows, step, subtotal, text_of, vector_bytes, vector_file_bytes, write_line, Facts, Kind, Lanes,
     Refusal, JOURNAL_HEADER_BYTES, LONGEST_LINE, MOST_JOURNAL_BYTES,
 };
 use std::ops::Range;
@@ -10,12 +10,14 @@ use std::ops::Range;
 /// A machine with all that the calls are lent: both files, a program, and the journal of its steps.
 ///
 /// What it owns always fits together: [`Refusal::Length`], [`Refusal::File`], [`Refusal::Program`],
-/// [`Refusal::Room`] and [`Refusal::Journal`] come from where a machine is made, if at all.
+/// [`Refusal::Room`] and [`Refusal::Journal`] come from where a machine is made, if at all. Its facts
+/// are given there too and never change, so all steps of its journal have the same.
 ///
 #[doc = concat!("```\n", include_str!("../examples/machine.rs"), "```")]
 #[derive(Clone, Debug, PartialEq, Eq)]
 pub struct Machine {
     k: usize,
+    facts: Facts,
     z: Vec<u8>,
     p: Vec<u8>,
     program: Vec<u8>,
@@ -23,27 +25,33 @@ pub struct Machine {
 }
 
 impl Machine {
-    /// Registers of zeros, this program, and a journal of the most bytes. That has room for every step
-    /// of every program, but at length 16 for 254 alone.
+    /// A core with these facts, registers of zeros, this program, and a journal of the most bytes. That
+    /// has room for every step of every program, but at length 16 for 254 alone.
     ///
-    /// Refused: [`Refusal::Length`], [`Refusal::Program`].
-    pub fn new(k: usize, words: &[u32]) -> Result<Machine, Refusal> {
-        Machine::with_room(k, words, MOST_JOURNAL_BYTES)
+    /// Refused: [`Refusal::Length`], [`Refusal::Program`]. A word that the facts do not accept is refused
+    /// when it is stepped.
+    pub fn new(k: usize, facts: Facts, words: &[u32]) -> Result<Machine, Refusal> {
+        Machine::with_room(k, facts, words, MOST_JOURNAL_BYTES)
     }
 
     /// The same with a journal of so many bytes; [`journal_bytes`](crate::journal_bytes) tells how many
     /// some entries take.
     ///
     /// Refused: [`Refusal::Length`], [`Refusal::Program`], [`Refusal::Room`].
-    pub fn with_room(k: usize, words: &[u32], bytes: usize) -> Result<Machine, Refusal> {
+    pub fn with_room(
+        k: usize,
+        facts: Facts,
+        words: &[u32],
+        bytes: usize,
+    ) -> Result<Machine, Refusal> {
         let program: Vec<u8> = words.iter().flat_map(|word| word.to_le_bytes()).collect();
         // The length first: the files of another one need not fit into memory.
         fresh(k, &mut [0; 8])?;
         let (z, p) = (vec![0; vector_file_bytes(k)], vec![0; predicate_file_bytes(k)]);
-        Machine::started(k, z, p, program, bytes)
+        Machine::started(k, facts, z, p, program, bytes)
     }
 
-    /// The files and the program of a session, and a journal of the most bytes.
+    /// The facts, the files and the program of a session, and a journal of the most bytes.
     ///
     /// Refused: [`Refusal::Session`].
     pub fn from_session(bytes: &[u8]) -> Result<Machine, Refusal> {
@@ -51,12 +59,13 @@ impl Machine {
         let z = bytes[session.vectors..session.predicates].to_vec();
         let p = bytes[session.predicates..session.program].to_vec();
         let program = bytes[session.program..].to_vec();
-        Machine::started(session.k, z, p, program, MOST_JOURNAL_BYTES)
+        Machine::started(session.k, session.facts, z, p, program, MOST_JOURNAL_BYTES)
     }
 
     /// A machine of these parts with a fresh journal.
     fn started(
         k: usize,
+        facts: Facts,
         z: Vec<u8>,
         p: Vec<u8>,
         program: Vec<u8>,
@@ -69,12 +78,17 @@ impl Machine {
         // One byte too many is refused as any further ones are.
         let mut journal = vec![0; bytes.min(MOST_JOURNAL_BYTES + 1)];
         fresh(k, &mut journal)?;
-        Ok(Machine { k, z, p, program, journal })
+        Ok(Machine { k, facts, z, p, program, journal })
     }
 
     /// The length.
     pub fn k(&self) -> usize {
         self.k
+    }
+
+    /// The facts about the core.
+    pub fn facts(&self) -> Facts {
+        self.facts
     }
 
     /// The vector file.
@@ -118,14 +132,14 @@ impl Machine {
     ///
     /// Refused: [`Refusal::End`], [`Refusal::Unknown`], [`Refusal::Undefined`].
     pub fn text(&self, at: usize) -> Result<String, Refusal> {
-        text_of(self.word(at)?)
+        text_of(self.word(at)?, self.facts)
     }
 
     /// Executes the word at the position, and keeps what its destination held.
     ///
     /// Refused: [`Refusal::End`], [`Refusal::Unknown`], [`Refusal::Undefined`], [`Refusal::Full`].
     pub fn step(&mut self) -> Result<(), Refusal> {
-        step(self.k, &mut self.z, &self.p, &self.program, &mut self.journal)
+        step(self.k, self.facts, &mut self.z, &self.p, &self.program, &mut self.journal)
     }
 
     /// Takes the last step back.
@@ -181,8 +195,8 @@ impl Machine {
     /// done and the word is not accepted.
     pub fn line(&self, position: usize, answer: Result<(), Refusal>) -> Result<String, Refusal> {
         let mut out = [0; LONGEST_LINE];
-        let length =
-            write_line(&mut out, self.k, &self.z, &self.p, &self.program, position, answer)?;
+        let Machine { k, facts, z, p, program, .. } = self;
+        let length = write_line(&mut out, *k, *facts, z, p, program, position, answer)?;
         Ok(String::from_utf8_lossy(&out[..length]).into_owned())
     }
 

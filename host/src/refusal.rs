@@ -23,7 +23,7 @@ pub enum Refusal {
     End,
     /// 7: no row of the table matches the word.
     Unknown,
-    /// 8: a row matches, its size is not allowed.
+    /// 8: a row matches; its size is not allowed, or the facts lack what it needs.
     Undefined,
     /// 9: no further entry fits into the journal.
     Full,
@@ -31,7 +31,7 @@ pub enum Refusal {
     Empty,
     /// 11: the output is too short.
     Out,
-    /// 12: not one of the accepted texts.
+    /// 12: not one of the accepted texts, or one whose word the facts do not accept.
     Text,
     /// 13: a register, predicate, size or range of lanes that is not there.
     Range,

@@ -4,7 +4,7 @@
 mod slips;
 
 use ghishmadul::boundary::{Answer, Fields, Place, Session, Word};
-use ghishmadul::{Kind, Lanes, Refusal};
+use ghishmadul::{Facts, Kind, Lanes, Refusal};
 use std::slice::{from_raw_parts, from_raw_parts_mut};
 
 unsafe fn lent<'a>(start: *const u8, bytes: usize) -> &'a [u8] {
@@ -34,9 +34,15 @@ fn answer(answer: Result<u64, Refusal>) -> Answer {
     }
 }
 
+/// The bits of these facts.
+fn facts_byte(facts: Facts) -> u64 {
+    let bits = [facts.sve, facts.sve2, facts.sve2p1, facts.sme, facts.sme2p1];
+    bits.iter().rev().fold(0, |byte, &bit| byte << 1 | u64::from(bit))
+}
+
 #[no_mangle]
-pub extern "C" fn ln_decode(word: u32) -> Fields {
-    match reference::decode(word) {
+pub extern "C" fn ln_decode(word: u32, facts: u8) -> Fields {
+    match reference::decode(word, slips::facts(facts, || Some(word))) {
         Ok(fields) => Fields {
             number: 0,
             row: fields.row as u64,
@@ -54,13 +60,13 @@ pub extern "C" fn ln_decode(word: u32) -> Fields {
 }
 
 #[no_mangle]
-pub unsafe extern "C" fn ln_text(word: u32, out: *mut u8, out_len: usize) -> Answer {
-    answer(slips::text(word, lent_mut(out, out_len)).map(|length| length as u64))
+pub unsafe extern "C" fn ln_text(word: u32, facts: u8, out: *mut u8, out_len: usize) -> Answer {
+    answer(slips::text(word, facts, lent_mut(out, out_len)).map(|length| length as u64))
 }
 
 #[no_mangle]
-pub unsafe extern "C" fn ln_assemble(text: *const u8, text_len: usize) -> Answer {
-    answer(slips::assemble(lent(text, text_len)).map(u64::from))
+pub unsafe extern "C" fn ln_assemble(text: *const u8, text_len: usize, facts: u8) -> Answer {
+    answer(slips::assemble(lent(text, text_len), facts).map(u64::from))
 }
 
 #[no_mangle]
@@ -71,6 +77,7 @@ pub unsafe extern "C" fn ln_fresh(k: usize, journal: *mut u8, journal_len: usize
 #[no_mangle]
 pub unsafe extern "C" fn ln_step(
     k: usize,
+    facts: u8,
     z: *mut u8,
     z_len: usize,
     p: *const u8,
@@ -82,7 +89,7 @@ pub unsafe extern "C" fn ln_step(
 ) -> u64 {
     let (z, p) = (lent_mut(z, z_len), lent(p, p_len));
     let (program, journal) = (lent(program, program_len), lent_mut(journal, journal_len));
-    number(slips::step(k, z, p, program, journal))
+    number(slips::step(k, facts, z, p, program, journal))
 }
 
 #[no_mangle]
@@ -171,7 +178,8 @@ pub unsafe extern "C" fn ln_read_word(program: *const u8, program_len: usize, at
 
 #[no_mangle]
 pub unsafe extern "C" fn ln_read_session(bytes: *const u8, bytes_len: usize) -> Session {
-    match slips::read_session(lent(bytes, bytes_len)) {
+    let bytes = lent(bytes, bytes_len);
+    match slips::read_session(bytes) {
         Ok(session) => Session {
             number: 0,
             k: session.k as u64,
@@ -179,6 +187,7 @@ pub unsafe extern "C" fn ln_read_session(bytes: *const u8, bytes_len: usize) -> 
             vectors: session.vectors as u64,
             predicates: session.predicates as u64,
             program: session.program as u64,
+            facts: facts_byte(session.facts),
         },
         Err(refusal) => Session {
             number: refusal.number(),
@@ -187,6 +196,7 @@ pub unsafe extern "C" fn ln_read_session(bytes: *const u8, bytes_len: usize) -> 
             vectors: 0,
             predicates: 0,
             program: 0,
+            facts: slips::refused_facts(bytes),
         },
     }
 }
@@ -196,6 +206,7 @@ pub unsafe extern "C" fn ln_write_line(
     out: *mut u8,
     out_len: usize,
     k: usize,
+    facts: u8,
     z: *const u8,
     z_len: usize,
     p: *const u8,
@@ -205,12 +216,14 @@ pub unsafe extern "C" fn ln_write_line(
     position: usize,
     number: u64,
 ) -> Answer {
+    let program = lent(program, program_len);
     let line = reference::write_line(
         lent_mut(out, out_len),
         k,
+        slips::line_facts(facts, program, position),
         lent(z, z_len),
         lent(p, p_len),
-        lent(program, program_len),
+        program,
         position,
         Refusal::check(slips::line_number(number)),
     );

@@ -1,7 +1,7 @@
 //! The reference with the slip of `slips.txt` that the variable SLIP names; none if none is named.
 
-use ghishmadul::{Fields, Lanes, Refusal, Session};
-use reference::TABLE;
+use ghishmadul::{Facts, Fields, Lanes, Refusal, Session};
+use reference::{facts_of, HIGHER, TABLE};
 use std::ops::Range;
 
 /// What the bits of a widening word say.
@@ -24,39 +24,89 @@ fn slips(name: &str) -> bool {
     SLIP.with(|slip| slip == name)
 }
 
-pub fn text(word: u32, out: &mut [u8]) -> Result<usize, Refusal> {
-    let length = reference::text(word, out)?;
+/// The facts of a byte, and what a slip makes of them for a word.
+pub fn facts(byte: u8, word: impl FnOnce() -> Option<u32>) -> Facts {
+    let facts = facts_of(byte);
+    if SLIP.with(String::is_empty) {
+        return facts;
+    }
+    let row = word().and_then(|word| TABLE.iter().position(|row| row.matches(word)));
+    let name = SLIP.with(String::clone);
+    match name.as_str() {
+        "facts read from the neighbouring bit" => facts_of(byte >> 1),
+        "facts with a higher bit taken for none" if byte & HIGHER != 0 => Facts::NONE,
+        "usubwt accepted whatever the facts" if row == Some(USUBWT) => Facts::ALL,
+        "sve2 taken to imply sve" => Facts { sve: facts.sve || facts.sve2, ..facts },
+        "addqv's need taken for saddv's" if row == Some(ADDQV) => {
+            Facts { sve2p1: facts.sve, sme2p1: facts.sme, ..facts }
+        }
+        "a need asked with and" => {
+            let both = match row {
+                Some(0 | 1) => facts.sve && facts.sme,
+                Some(ADDQV) => facts.sve2p1 && facts.sme2p1,
+                _ => facts.sve2 && facts.sme,
+            };
+            if both {
+                facts
+            } else {
+                Facts::NONE
+            }
+        }
+        _ => facts,
+    }
+}
+
+/// The word of a program at a position.
+fn word_at(program: &[u8], position: usize) -> Option<u32> {
+    reference::read_word(program, position).ok().map(|word| word.word)
+}
+
+pub fn text(word: u32, byte: u8, out: &mut [u8]) -> Result<usize, Refusal> {
+    let facts = match slips("a name told that the facts forbid") {
+        true => Facts::ALL,
+        false => facts(byte, || Some(word)),
+    };
+    if slips("the facts asked before a text's room") && reference::decode(word, Facts::ALL).is_ok()
+    {
+        reference::decode(word, facts)?;
+    }
+    let length = reference::text(word, facts, out)?;
     if slips("a byte past the text written") {
         out[length] = 0;
     }
     if slips("the half letter of zn in a wide text") && out[4] == b'w' {
-        reference::text(word ^ WIDE, out)?;
+        reference::text(word ^ WIDE, facts, out)?;
         out[4] = b'w';
     }
     Ok(length)
 }
 
-pub fn assemble(text: &[u8]) -> Result<u32, Refusal> {
+pub fn assemble(text: &[u8], byte: u8) -> Result<u32, Refusal> {
+    let facts = facts(byte, || reference::assemble(text, Facts::ALL).ok());
     if slips("a byte past the text read") {
         unsafe { text.as_ptr().add(text.len()).read_volatile() };
     }
     if slips("two spaces accepted") {
         let text = String::from_utf8_lossy(text).replacen("  ", " ", 1);
-        return reference::assemble(text.as_bytes());
+        return reference::assemble(text.as_bytes(), facts);
     }
     if slips("the full letter of zn accepted in a long text") {
-        return reference::assemble(text).or_else(|refusal| assemble_as_wide(text).ok_or(refusal));
+        let refused = |refusal| assemble_as_wide(text, facts).ok_or(refusal);
+        return reference::assemble(text, facts).or_else(refused);
     }
-    reference::assemble(text)
+    if slips("a text accepted that the facts forbid") {
+        return reference::assemble(text, Facts::ALL);
+    }
+    reference::assemble(text, facts)
 }
 
 /// The long word of a text that a wide word would have.
-fn assemble_as_wide(text: &[u8]) -> Option<u32> {
+fn assemble_as_wide(text: &[u8], facts: Facts) -> Option<u32> {
     if text.get(4) != Some(&b'l') {
         return None;
     }
     let wide = [&text[..4], b"w", &text[5..]].concat();
-    reference::assemble(&wide).ok().map(|word| word ^ WIDE)
+    reference::assemble(&wide, facts).ok().map(|word| word ^ WIDE)
 }
 
 pub fn subtotal(
@@ -72,6 +122,22 @@ pub fn subtotal(
         return reference::subtotal(k, z, p, lanes, signed, range.start - 1..range.end - 1);
     }
     Ok(total)
+}
+
+/// The facts of a line that is told done.
+pub fn line_facts(byte: u8, program: &[u8], position: usize) -> Facts {
+    if slips("a line of a step that the facts forbid") {
+        return Facts::ALL;
+    }
+    facts(byte, || word_at(program, position))
+}
+
+/// The facts that come with a refused session.
+pub fn refused_facts(bytes: &[u8]) -> u64 {
+    match bytes.get(8) {
+        Some(&facts) if slips("facts told of a refused session") => facts.into(),
+        _ => 0,
+    }
 }
 
 /// The answer number of a line.
@@ -116,35 +182,59 @@ pub fn position(k: usize, journal: &[u8]) -> Result<usize, Refusal> {
 
 pub fn read_session(bytes: &[u8]) -> Result<Session, Refusal> {
     let program = 8 + 544 * 6;
+    let facts = Facts::ALL;
     match reference::read_session(bytes) {
+        Err(_) if slips("a higher bit of a session let in") && bytes.len() > 8 && bytes[3] == 2 => {
+            let mut lower = bytes.to_vec();
+            lower[8] &= !HIGHER;
+            reference::read_session(&lower)
+        }
+        Ok(session) if slips("version 1 read as no facts") && bytes[3] == 1 => {
+            Ok(Session { facts: Facts::NONE, ..session })
+        }
+        Ok(session) if slips("the parts of version 2 where version 1 has them") => {
+            let Session { k, .. } = session;
+            Ok(Session { vectors: 8, predicates: 8 + 512 * k, program: 8 + 544 * k, ..session })
+        }
         Err(_) if slips("a session of length 6 let in") && bytes.get(5) == Some(&6) => {
             let words = bytes.len().checked_sub(program).ok_or(Refusal::Session)?;
-            Ok(Session { k: 6, count: words / 4, vectors: 8, predicates: 8 + 512 * 6, program })
+            let (count, predicates) = (words / 4, 8 + 512 * 6);
+            Ok(Session { k: 6, count, vectors: 8, predicates, program, facts })
         }
         answer => answer,
     }
 }
 
-/// The fields of the word at the position.
-fn next(program: &[u8], journal: &[u8]) -> Option<Fields> {
-    let word = reference::read_word(program, count(journal)?).ok()?.word;
-    reference::decode(word).ok()
+/// The word at the journal's position.
+fn next(program: &[u8], journal: &[u8]) -> Option<u32> {
+    word_at(program, count(journal)?)
 }
 
 pub fn step(
     k: usize,
+    byte: u8,
     z: &mut [u8],
     p: &[u8],
     program: &[u8],
     journal: &mut [u8],
 ) -> Result<(), Refusal> {
     if SLIP.with(String::is_empty) {
-        return reference::step(k, z, p, program, journal);
+        return reference::step(k, facts_of(byte), z, p, program, journal);
     }
     let before = z.to_vec();
-    let fields = next(program, journal);
-    let answer = reference::step(k, z, p, program, journal);
+    let word = next(program, journal);
+    let facts = match slips("a step done that the facts forbid") {
+        true => Facts::ALL,
+        false => facts(byte, || word),
+    };
+    let fields = word.and_then(|word| reference::decode(word, facts).ok());
+    let answer = reference::step(k, facts, z, p, program, journal);
     match answer {
+        Err(Refusal::Undefined) if slips("a full journal tested before the facts") => {
+            let (mut z, mut journal) = (z.to_vec(), journal.to_vec());
+            reference::step(k, Facts::ALL, &mut z, p, program, &mut journal)
+                .or_else(|refusal| if refusal == Refusal::Full { Err(refusal) } else { Ok(()) })?;
+        }
         Err(Refusal::Full) if slips("a full journal's step changes its count") => journal[7] ^= 1,
         Err(Refusal::Journal) if slips("end tested before the journal") => {
             if program.is_empty() {
@@ -190,7 +280,8 @@ fn slip(k: usize, z: &mut [u8], p: &[u8], mut before: Vec<u8>, fields: Fields) {
     let mut again = |word: u32, p: &[u8], before: &mut Vec<u8>| {
         let mut journal = vec![0; 8 + 1 + bytes];
         reference::fresh(k, &mut journal).expect("a legal length");
-        reference::step(k, before, p, &word.to_le_bytes(), &mut journal).expect("an accepted word");
+        reference::step(k, Facts::ALL, before, p, &word.to_le_bytes(), &mut journal)
+            .expect("an accepted word");
         z.copy_from_slice(before);
     };
     let name = SLIP.with(String::clone);

@@ -13,6 +13,7 @@ macro_rules! example {
     };
 }
 
+example!(cores, "../examples/cores.rs");
 example!(machine, "../examples/machine.rs");
 example!(moves, "../examples/moves.rs");
 example!(pane, "../examples/pane.rs");

@@ -1,8 +1,9 @@
 /* The numbers and names of include/ln.h, a line each, with the lengths that are accepted; then the rows
- * of the table of words, then the line of a step with the greatest answer number. The crate and its
- * reference have the same. */
+ * of the table of words and for each the sets of facts that accept a word of it, then the line of a step
+ * with the greatest answer number. The crate and its reference have the same. */
 #include "ln.h"
 
+#include <stddef.h>
 #include <stdio.h>
 
 static void say(const char *name, size_t value)
@@ -32,7 +33,7 @@ static void say_line(void)
 {
     static uint8_t z[LN_VECTOR_FILE_BYTES(1)], p[LN_PREDICATE_FILE_BYTES(1)], program[LN_WORD_BYTES];
     static uint8_t line[LN_LONGEST_LINE];
-    struct ln_answer answer = ln_write_line(line, sizeof line, 1, z, sizeof z, p, sizeof p, program,
+    struct ln_answer answer = ln_write_line(line, sizeof line, 1, 0, z, sizeof z, p, sizeof p, program,
                                             sizeof program, 0, UINT64_MAX);
 
     fwrite(line, 1, (size_t)answer.value, stdout);
@@ -66,6 +67,45 @@ static void say_rows(void)
     say("USUBWT", LN_USUBWT);
 }
 
+/* The facts, and where a session's are told. */
+static void say_facts(void)
+{
+    say("SVE", LN_SVE);
+    say("SVE2", LN_SVE2);
+    say("SVE2P1", LN_SVE2P1);
+    say("SME", LN_SME);
+    say("SME2P1", LN_SME2P1);
+    say("ALL_FACTS", LN_ALL_FACTS);
+    say("SESSION_VERSION", LN_SESSION_VERSION);
+    say("FORMER_SESSION_VERSION", LN_FORMER_SESSION_VERSION);
+    say("SESSION_HEADER_BYTES", LN_SESSION_HEADER_BYTES);
+    say("FORMER_SESSION_HEADER_BYTES", LN_FORMER_SESSION_HEADER_BYTES);
+    say("bytes of a session's answer", sizeof(struct ln_session));
+    say("its facts at", offsetof(struct ln_session, facts));
+}
+
+/* For a word of each row, at size 1 and with registers 0, which of the 32 sets of facts accept it. */
+static void say_accepted(void)
+{
+    static const uint32_t words[] = {
+        0x04402000, 0x04412000, 0x04452000, 0x0E703800, 0x2E703800, 0x4444A000, 0x4445A000, 0x45400000,
+        0x45400400, 0x45400800, 0x45400C00, 0x45401000, 0x45401400, 0x45401800, 0x45401C00, 0x45404000,
+        0x45404400, 0x45404800, 0x45404C00, 0x45405000, 0x45405400, 0x45405800, 0x45405C00};
+    size_t row;
+    unsigned facts;
+
+    for (row = 0; row < sizeof words / sizeof *words; row++) {
+        printf("row %d under", (int)row);
+        for (facts = 0; facts <= LN_ALL_FACTS; facts++) {
+            struct ln_fields fields = ln_decode(words[row], (uint8_t)facts);
+            if (fields.number == LN_DONE && fields.row == row) {
+                printf(" %u", facts);
+            }
+        }
+        printf("\n");
+    }
+}
+
 int main(void)
 {
     uint64_t number;
@@ -91,6 +131,8 @@ int main(void)
         say(ln_refusal_name(number), (size_t)number);
     }
     say_rows();
+    say_facts();
+    say_accepted();
     say_line();
     return 0;
 }

@@ -1,5 +1,5 @@
-//! The crate's numbers and names are the header's, so are the reference's rows, and so is a line: `header.c`
-//! prints the same.
+//! The crate's numbers and names are the header's, so are the reference's rows and what they need, and so is
+//! a line: `header.c` prints the same.
 
 use ghishmadul::*;
 
@@ -32,9 +32,58 @@ fn the_header_has_the_same_numbers() {
     let names = refusals.map(|refusal| format!("{} {}\n", refusal.name(), refusal.number()));
     let rows = reference::TABLE.iter().zip(0..);
     let rows = rows.map(|(row, number)| format!("{} {}\n", row.name.to_uppercase(), number));
+    let facts = facts().into_iter().map(|(name, value)| format!("{} {}\n", name, value));
+    let needs = (0..reference::TABLE.len()).map(sets_of_a_row);
     let line = [line_of_the_greatest_number()];
-    let lines: String = sizes.chain(names).chain(rows).chain(line).collect();
+    let lines: String =
+        sizes.chain(names).chain(rows).chain(facts).chain(needs).chain(line).collect();
     assert_eq!(lines, include_str!("header.expected"));
+}
+
+/// The facts, and where a session's are told.
+fn facts() -> [(&'static str, usize); 12] {
+    let none = Facts::NONE;
+    let byte = |facts: Facts| usize::from(facts.byte());
+    let answer = unsafe { boundary::ln_read_session([].as_ptr(), 0) };
+    let place = |start: *const u64| start as usize - &answer as *const boundary::Session as usize;
+    [
+        ("SVE", byte(Facts { sve: true, ..none })),
+        ("SVE2", byte(Facts { sve2: true, ..none })),
+        ("SVE2P1", byte(Facts { sve2p1: true, ..none })),
+        ("SME", byte(Facts { sme: true, ..none })),
+        ("SME2P1", byte(Facts { sme2p1: true, ..none })),
+        ("ALL_FACTS", byte(Facts::ALL)),
+        ("SESSION_VERSION", SESSION_VERSION),
+        ("FORMER_SESSION_VERSION", FORMER_SESSION_VERSION),
+        ("SESSION_HEADER_BYTES", SESSION_HEADER_BYTES),
+        ("FORMER_SESSION_HEADER_BYTES", FORMER_SESSION_HEADER_BYTES),
+        ("bytes of a session's answer", std::mem::size_of::<boundary::Session>()),
+        ("its facts at", place(&answer.facts)),
+    ]
+}
+
+/// The sets of facts that accept a word of this row, at size 1 and with registers 0: by the engine, and by
+/// the reference too.
+fn sets_of_a_row(row: usize) -> String {
+    let word = reference::TABLE[row].value | 1 << 22;
+    let sets = (0..32).filter(|&byte| {
+        let facts = Facts::from_byte(byte);
+        let fields = decode(word, facts);
+        assert_eq!(fields, reference::decode(word, facts));
+        fields.map(|fields| fields.row) == Ok(row)
+    });
+    format!("row {} under{}\n", row, sets.map(|byte| format!(" {}", byte)).collect::<String>())
+}
+
+#[test]
+fn a_byte_has_its_facts() {
+    for byte in 0..=255 {
+        assert_eq!(Facts::from_byte(byte), reference::facts_of(byte));
+        assert_eq!(Facts::from_byte(byte).byte(), byte & 31);
+    }
+    let cores = [Facts::NONE, Facts::SVE, Facts::SVE2, Facts::SVE2P1, Facts::SME_ONLY];
+    assert_eq!(cores.map(Facts::byte), [0, 1, 3, 7, 8]);
+    assert_eq!([Facts::SME2P1, Facts::ALL, Facts::default()].map(Facts::byte), [24, 31, 0]);
 }
 
 /// The line of a step at k = 1 over a word of zeros, with the greatest answer number.
@@ -43,6 +92,6 @@ fn line_of_the_greatest_number() -> String {
     let p = vec![0; predicate_file_bytes(1)];
     let mut out = [0; LONGEST_LINE];
     let answer = Err(Refusal::Unlisted(u64::MAX));
-    let length = write_line(&mut out, 1, &z, &p, &[0; 4], 0, answer).unwrap();
+    let length = write_line(&mut out, 1, Facts::NONE, &z, &p, &[0; 4], 0, answer).unwrap();
     String::from_utf8_lossy(&out[..length]).into_owned()
 }

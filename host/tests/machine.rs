@@ -5,8 +5,8 @@
 mod random;
 
 use ghishmadul::{
-    journal_bytes, predicate_bytes, predicate_file_bytes, vector_bytes, vector_file_bytes, Kind,
-    Lanes, Machine, Refusal, LENGTHS, MOST_JOURNAL_BYTES,
+    journal_bytes, predicate_bytes, predicate_file_bytes, vector_bytes, vector_file_bytes, Facts,
+    Kind, Lanes, Machine, Refusal, LENGTHS, MOST_JOURNAL_BYTES,
 };
 use random::Random;
 
@@ -28,7 +28,10 @@ fn words(random: &mut Random) -> Vec<u32> {
     (0..many)
         .map(|_| match random.below(30) {
             0 => 0x2EB0_3800,
-            _ => ghishmadul::assemble(random.pick(&TEXTS)).expect("an accepted text"),
+            _ => {
+                let text = random.pick(&TEXTS);
+                ghishmadul::assemble(text, Facts::ALL).expect("an accepted text")
+            }
         })
         .collect()
 }
@@ -47,7 +50,10 @@ impl Beside {
     fn new(random: &mut Random, k: usize) -> Beside {
         let words = words(random);
         let bytes = journal_bytes(k, random.below(30));
-        let mut machine = Machine::with_room(k, &words, bytes).expect("a machine");
+        let cores = [Facts::ALL, Facts::SVE2P1, Facts::SME2P1, Facts::SVE2, Facts::SVE];
+        let facts = random.pick(&cores);
+        let mut machine = Machine::with_room(k, facts, &words, bytes).expect("a machine");
+        assert_eq!(machine.facts(), facts);
         for number in 0..4 {
             random.fill(machine.register_mut(Kind::Vector, number).expect("a register"));
             random.fill(machine.register_mut(Kind::Predicate, number).expect("a register"));
@@ -63,16 +69,20 @@ impl Beside {
     }
 
     fn step(&mut self) {
-        let k = self.machine.k();
+        let (k, facts) = (self.machine.k(), self.machine.facts());
         let answer = self.machine.step();
         assert_eq!(
             answer,
-            reference::step(k, &mut self.z, &self.p, &self.program, &mut self.journal)
+            reference::step(k, facts, &mut self.z, &self.p, &self.program, &mut self.journal)
         );
         match reference::read_word(&self.program, self.position) {
             Ok(word) => {
-                let line = reference::line(k, &self.z, word.word, self.position, answer);
+                let line = reference::line(k, facts, &self.z, word.word, self.position, answer);
                 assert_eq!(self.machine.line(self.position, answer), Ok(line));
+                let mut out = [0; 32];
+                let text = reference::text(word.word, facts, &mut out);
+                let text = text.map(|length| String::from_utf8_lossy(&out[..length]).into_owned());
+                assert_eq!(self.machine.text(self.position), text);
             }
             Err(refusal) => {
                 assert_eq!(self.machine.line(self.position, answer), Err(refusal));
@@ -126,7 +136,8 @@ fn a_machine_moves_as_the_reference_does() {
 
 #[test]
 fn what_is_no_machine_is_refused() {
-    let made = |k, words: usize, bytes| Machine::with_room(k, &vec![0; words], bytes).err();
+    let made =
+        |k, words: usize, bytes| Machine::with_room(k, Facts::NONE, &vec![0; words], bytes).err();
     assert_eq!(made(1, 256, 8), None);
     assert_eq!(made(16, 0, MOST_JOURNAL_BYTES), None);
     for k in (0..40).filter(|k| !LENGTHS.contains(k)).chain([usize::MAX]) {
@@ -140,9 +151,10 @@ fn what_is_no_machine_is_refused() {
 
 #[test]
 fn room_is_what_the_journal_holds() {
-    let word = ghishmadul::assemble("saddv d0, p0, z0.b").expect("an accepted text");
+    let facts = Facts::SVE;
+    let word = ghishmadul::assemble("saddv d0, p0, z0.b", facts).expect("an accepted text");
     for (k, room) in [(1, 256), (8, 256), (16, 254)] {
-        let mut machine = Machine::new(k, &[word; 256]).expect("a machine");
+        let mut machine = Machine::new(k, facts, &[word; 256]).expect("a machine");
         assert_eq!(machine.room().min(256), room);
         let lines = machine.walk();
         assert_eq!(machine.position(), room);
@@ -150,7 +162,7 @@ fn room_is_what_the_journal_holds() {
         let next = machine.step();
         assert_eq!(next, Err(if room < 256 { Refusal::Full } else { Refusal::End }));
     }
-    let machine = Machine::with_room(4, &[word], journal_bytes(4, 5)).expect("a machine");
+    let machine = Machine::with_room(4, facts, &[word], journal_bytes(4, 5)).expect("a machine");
     assert_eq!(machine.room(), 5);
 }
 

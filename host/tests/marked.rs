@@ -1,11 +1,11 @@
 //! The paper's marked cases M1 to M12, and some of the differences and wide sums, by the engine and by
 //! the reference.
 
-use ghishmadul::Refusal;
+use ghishmadul::{Facts, Refusal};
 
-type Assemble = fn(&[u8]) -> Result<u32, Refusal>;
-type Text = fn(u32, &mut [u8]) -> Result<usize, Refusal>;
-type Step = fn(usize, &mut [u8], &[u8], &[u8], &mut [u8]) -> Result<(), Refusal>;
+type Assemble = fn(&[u8], Facts) -> Result<u32, Refusal>;
+type Text = fn(u32, Facts, &mut [u8]) -> Result<usize, Refusal>;
+type Step = fn(usize, Facts, &mut [u8], &[u8], &[u8], &mut [u8]) -> Result<(), Refusal>;
 
 /// One step of one word: Z0 and Z1 before it, P0, and Z0 after it. Each pattern fills its register.
 struct Case {
@@ -212,16 +212,18 @@ fn run(side: &str, case: &Case, assemble: Assemble, step: Step) {
         Again(pattern) => fill(&mut after[..bytes], pattern),
     }
 
-    let program = assemble(case.text.as_bytes()).expect(case.text).to_le_bytes();
+    let facts = Facts::ALL;
+    let program = assemble(case.text.as_bytes(), facts).expect(case.text).to_le_bytes();
     let mut journal = vec![0; 8 + 1 + bytes];
     reference::fresh(case.k, &mut journal).expect("a legal length");
-    assert_eq!(step(case.k, &mut z, &p, &program, &mut journal), Ok(()), "{} {}", side, case.name);
+    let answer = step(case.k, facts, &mut z, &p, &program, &mut journal);
+    assert_eq!(answer, Ok(()), "{} {}", side, case.name);
     assert!(z == after, "{} {}", side, case.name);
 }
 
 fn run_all(cases: &[Case]) {
     for case in cases {
-        run("engine", case, |text| ghishmadul::assemble(text), ghishmadul::step);
+        run("engine", case, |text, facts| ghishmadul::assemble(text, facts), ghishmadul::step);
         run("reference", case, reference::assemble, reference::step);
     }
 }
@@ -239,13 +241,13 @@ fn differences_and_wide_sums() {
 #[test]
 fn m12() {
     for word in [0x2EB0_3800, 0x4500_0000] {
-        assert_eq!(ghishmadul::decode(word), Err(Refusal::Undefined));
-        assert_eq!(reference::decode(word), Err(Refusal::Undefined));
+        assert_eq!(ghishmadul::decode(word, Facts::ALL), Err(Refusal::Undefined));
+        assert_eq!(reference::decode(word, Facts::ALL), Err(Refusal::Undefined));
     }
     let calls: [Text; 2] = [ghishmadul::text, reference::text];
     for text in calls {
         let mut out = [0; 32];
-        let length = text(0x6EB0_3800, &mut out).expect("an accepted word");
+        let length = text(0x6EB0_3800, Facts::ALL, &mut out).expect("an accepted word");
         assert_eq!(&out[..length], b"uaddlv d0, v0.4s");
     }
 }

@@ -1,6 +1,7 @@
 //! What the programs `families` and `trials` are expected to print is what the reference makes of the
 //! same start.
 
+use ghishmadul::Facts;
 use reference::{back, fresh, line, step};
 
 /// The words of `fillings`, one of every row, with register 3 as destination and among the sources.
@@ -33,8 +34,8 @@ fn families_prints_the_references_lines() {
             let (mut z, p) = files(k);
             let mut journal = vec![0; 8 + 1 + 16 * k];
             fresh(k, &mut journal).expect("a legal length");
-            let answer = step(k, &mut z, &p, &word.to_le_bytes(), &mut journal);
-            lines += &line(k, &z, word, 0, answer);
+            let answer = step(k, Facts::ALL, &mut z, &p, &word.to_le_bytes(), &mut journal);
+            lines += &line(k, Facts::ALL, &z, word, 0, answer);
         }
     }
     assert_eq!(lines, include_str!("../../crates/families/stdout"));
@@ -55,7 +56,8 @@ fn trials_prints_the_references_counts() {
                 if direction == 0 {
                     backward += u32::from(back(k, &mut z, &p, &mut journal).is_ok());
                 } else {
-                    forward += u32::from(step(k, &mut z, &p, &program, &mut journal).is_ok());
+                    let answer = step(k, Facts::ALL, &mut z, &p, &program, &mut journal);
+                    forward += u32::from(answer.is_ok());
                 }
             }
             lines += &format!("{} {} {} {} same\n", k, room, forward, backward);

@@ -30,14 +30,14 @@ static uint8_t painted[PAINTED];
 static ucontext_t here, there;
 static uint64_t number;
 
-typedef uint64_t step_of(size_t, uint8_t *, size_t, const uint8_t *, size_t, const uint8_t *, size_t, uint8_t *, size_t);
+typedef uint64_t step_of(size_t, uint8_t, uint8_t *, size_t, const uint8_t *, size_t, const uint8_t *, size_t, uint8_t *, size_t);
 
 /* A step that takes nothing but its return address. */
-static uint64_t nothing(size_t length, uint8_t *vectors, size_t vectors_len, const uint8_t *predicates,
+static uint64_t nothing(size_t length, uint8_t facts, uint8_t *vectors, size_t vectors_len, const uint8_t *predicates,
                         size_t predicates_len, const uint8_t *words, size_t words_len, uint8_t *entries,
                         size_t entries_len)
 {
-    (void)vectors, (void)vectors_len, (void)predicates, (void)predicates_len;
+    (void)facts, (void)vectors, (void)vectors_len, (void)predicates, (void)predicates_len;
     (void)words, (void)words_len, (void)entries, (void)entries_len;
     return length;
 }
@@ -46,7 +46,7 @@ static step_of *volatile step;
 
 static void run(void)
 {
-    number = step(k, z, LN_VECTOR_FILE_BYTES(k), p, LN_PREDICATE_FILE_BYTES(k), program, sizeof program, journal,
+    number = step(k, LN_ALL_FACTS, z, LN_VECTOR_FILE_BYTES(k), p, LN_PREDICATE_FILE_BYTES(k), program, sizeof program, journal,
                   sizeof journal);
 }
 
@@ -138,7 +138,7 @@ static void say(size_t row, size_t bytes)
         printf("no row   %d bytes\n", (int)bytes);
         return;
     }
-    ln_text(word_of(row, 1), text, sizeof text);
+    ln_text(word_of(row, 1), LN_ALL_FACTS, text, sizeof text);
     while (text[name] != ' ') {
         name++;
     }

@@ -18,7 +18,7 @@ mod split;
 #[path = "../benches/bench/typed.rs"]
 mod typed;
 
-use ghishmadul::{Lanes, Refusal};
+use ghishmadul::{Facts, Lanes, Refusal};
 use random::Random;
 use reached::Reached;
 
@@ -26,7 +26,7 @@ use reached::Reached;
 fn the_step_for_speed_agrees() {
     let mut random = Random::new(1);
     let (mut z, mut p, mut program, mut journal) = (vec![], vec![], vec![], vec![]);
-    let mut reached = Reached::default();
+    let (mut reached, mut wanting) = (Reached::default(), 0);
     for _ in 0..100_000 {
         let k = inputs::length(&mut random);
         inputs::files(&mut random, k, &mut z, &mut p);
@@ -35,15 +35,21 @@ fn the_step_for_speed_agrees() {
         let position = reference::position(k, &journal);
         let next = position.and_then(|position| reference::read_word(&program, position));
         let (mut other_z, mut other_journal) = (z.clone(), journal.clone());
-        let answer = typed::step(k, &mut z, &p, &program, &mut journal);
-        let other = reference::step(k, &mut other_z, &p, &program, &mut other_journal);
+        let facts = reference::facts_of(inputs::facts(&mut random));
+        let answer = typed::step(k, facts, &mut z, &p, &program, &mut journal);
+        let other = reference::step(k, facts, &mut other_z, &p, &program, &mut other_journal);
         assert_eq!(answer, other);
         assert!(z == other_z && journal == other_journal, "k {}, {:02x?}", k, &journal[..8]);
         if let (Ok(next), Ok(()) | Err(Refusal::Undefined)) = (next, other) {
-            reached.count(next.word);
+            if other.is_ok() || reference::decode(next.word, Facts::ALL).is_err() {
+                reached.count(next.word);
+            } else {
+                wanting += 1;
+            }
         }
     }
     assert!(reached.missing().is_empty(), "not reached: {}", reached.missing().join(", "));
+    assert!(wanting > 1000, "words refused for want of a fact");
 }
 
 #[test]

@@ -1,4 +1,5 @@
-/* Walks the paper's session in C, over include/ln.h, and prints a line for each step. */
+/* Walks the paper's session in C, over include/ln.h, and prints a line for each step: the session of the
+ * former version, the same with all facts, and with none. */
 #include "ln.h"
 
 #include <stdio.h>
@@ -7,21 +8,21 @@
 #define K 1
 #define WORDS 4
 
-static uint8_t session[LN_SESSION_HEADER_BYTES + LN_VECTOR_FILE_BYTES(K) + LN_PREDICATE_FILE_BYTES(K) +
-                       LN_WORD_BYTES * WORDS];
+/* The parts of a session after its header. */
+#define PARTS (LN_VECTOR_FILE_BYTES(K) + LN_PREDICATE_FILE_BYTES(K) + LN_WORD_BYTES * WORDS)
+
+static uint8_t session[LN_SESSION_HEADER_BYTES + PARTS];
 static uint8_t journal[LN_MOST_JOURNAL_BYTES];
 
 /* k = 1, Z1 bytes 1 to 16 in order, P0 bytes FF FF, all else zero, four words. */
-static void make_session(void)
+static void make_parts(uint8_t *vectors)
 {
-    static const uint8_t header[LN_SESSION_HEADER_BYTES] = {'L', 'N', 'W', 1, 0, K, WORDS, 0};
     static const uint32_t words[WORDS] = {0x04002020, 0x2E303822, 0x45410023, 0x04C02020};
-    uint8_t *vectors = session + LN_SESSION_HEADER_BYTES;
     uint8_t *predicates = vectors + LN_VECTOR_FILE_BYTES(K);
     uint8_t *program = predicates + LN_PREDICATE_FILE_BYTES(K);
     size_t at, byte;
 
-    memcpy(session, header, sizeof header);
+    memset(vectors, 0, PARTS);
     for (at = 0; at < 16; at++) {
         vectors[LN_VECTOR_BYTES(K) + at] = (uint8_t)(at + 1);
     }
@@ -34,18 +35,37 @@ static void make_session(void)
     }
 }
 
-int main(void)
+/* The session of the former version, which has no facts; its bytes. */
+static size_t make_former_session(void)
 {
-    struct ln_session parts;
-    uint8_t *z, *p, *program;
+    const uint8_t header[] = {'L', 'N', 'W', LN_FORMER_SESSION_VERSION, 0, K, WORDS, 0};
+
+    memcpy(session, header, LN_FORMER_SESSION_HEADER_BYTES);
+    make_parts(session + LN_FORMER_SESSION_HEADER_BYTES);
+    return LN_FORMER_SESSION_HEADER_BYTES + PARTS;
+}
+
+/* The session with these facts; its bytes. */
+static size_t make_session(uint8_t facts)
+{
+    const uint8_t header[] = {'L', 'N', 'W', LN_SESSION_VERSION, 0, K, WORDS, 0, facts};
+
+    memcpy(session, header, LN_SESSION_HEADER_BYTES);
+    make_parts(session + LN_SESSION_HEADER_BYTES);
+    return LN_SESSION_HEADER_BYTES + PARTS;
+}
+
+static void walk(size_t bytes)
+{
+    struct ln_session parts = ln_read_session(session, bytes);
+    uint8_t *z, *p, *program, facts;
     size_t z_bytes, p_bytes, program_bytes;
 
-    make_session();
-    parts = ln_read_session(session, sizeof session);
     if (parts.number != LN_DONE) {
         printf("%d\n", (int)parts.number);
-        return 0;
+        return;
     }
+    facts = (uint8_t)parts.facts;
     z = session + parts.vectors;
     p = session + parts.predicates;
     program = session + parts.program;
@@ -57,7 +77,8 @@ int main(void)
     for (;;) {
         size_t position = (size_t)ln_position(parts.k, journal, sizeof journal).value;
         struct ln_word next = ln_read_word(program, program_bytes, position);
-        uint64_t number = ln_step(parts.k, z, z_bytes, p, p_bytes, program, program_bytes, journal, sizeof journal);
+        uint64_t number =
+            ln_step(parts.k, facts, z, z_bytes, p, p_bytes, program, program_bytes, journal, sizeof journal);
         if (number == LN_END) {
             break;
         }
@@ -68,8 +89,8 @@ int main(void)
         }
         {
             uint8_t text[LN_LEAST_TEXT_OUT];
-            struct ln_answer length = ln_text((uint32_t)next.word, text, sizeof text);
-            struct ln_fields fields = ln_decode((uint32_t)next.word);
+            struct ln_answer length = ln_text((uint32_t)next.word, facts, text, sizeof text);
+            struct ln_fields fields = ln_decode((uint32_t)next.word, facts);
             struct ln_place place = ln_register_place(parts.k, z, z_bytes, p, p_bytes, 0, fields.d);
             size_t byte;
 
@@ -80,5 +101,15 @@ int main(void)
             printf("\n");
         }
     }
+}
+
+int main(void)
+{
+    walk(make_former_session());
+    walk(make_session(LN_ALL_FACTS));
+    walk(make_session(0));
+    /* A higher bit, and a byte too few. */
+    walk(make_session(LN_ALL_FACTS + 1));
+    walk(make_session(LN_ALL_FACTS) - 1);
     return 0;
 }

@@ -12,13 +12,16 @@ mod random;
 mod split;
 mod typed;
 
-use ghishmadul::{Kind, Lanes, Refusal, LENGTHS};
+use ghishmadul::{Facts, Kind, Lanes, Refusal, LENGTHS};
 use random::Random;
 use reference::{Row, TABLE};
 use std::ops::Range;
 use std::time::Duration;
 
 const JOURNAL: usize = 65_536;
+
+/// The facts that every call is timed under.
+const FACTS: Facts = Facts::ALL;
 
 /// Words of each family and width: the name here, and the word, its registers being 0. Of the widening
 /// family there are sums and differences, long and wide, of both signs and both halves.
@@ -55,6 +58,7 @@ const WORDS: [(&str, u32); 26] = [
 trait Steps {
     fn step(
         k: usize,
+        facts: Facts,
         z: &mut [u8],
         p: &[u8],
         program: &[u8],
@@ -77,8 +81,8 @@ trait Sums {
 /// A side with all calls that are timed.
 trait Calls: Steps + Sums {
     fn back(k: usize, z: &mut [u8], p: &[u8], journal: &mut [u8]) -> Result<(), Refusal>;
-    fn text(word: u32, out: &mut [u8]) -> Result<usize, Refusal>;
-    fn assemble(text: &[u8]) -> Result<u32, Refusal>;
+    fn text(word: u32, facts: Facts, out: &mut [u8]) -> Result<usize, Refusal>;
+    fn assemble(text: &[u8], facts: Facts) -> Result<u32, Refusal>;
     fn place(k: usize, z: &[u8], p: &[u8], kind: Kind, number: usize) -> Result<usize, Refusal>;
     fn panel(k: usize, z: &[u8], p: &[u8], lanes: Lanes, out: &mut [u8]) -> Result<(), Refusal>;
 }
@@ -88,12 +92,13 @@ macro_rules! steps {
         impl Steps for $side {
             fn step(
                 k: usize,
+                facts: Facts,
                 z: &mut [u8],
                 p: &[u8],
                 program: &[u8],
                 journal: &mut [u8],
             ) -> Result<(), Refusal> {
-                $calls::step(k, z, p, program, journal)
+                $calls::step(k, facts, z, p, program, journal)
             }
         }
     };
@@ -123,12 +128,12 @@ macro_rules! calls {
                 $calls::back(k, z, p, journal)
             }
 
-            fn text(word: u32, out: &mut [u8]) -> Result<usize, Refusal> {
-                $calls::text(word, out)
+            fn text(word: u32, facts: Facts, out: &mut [u8]) -> Result<usize, Refusal> {
+                $calls::text(word, facts, out)
             }
 
-            fn assemble(text: &[u8]) -> Result<u32, Refusal> {
-                $calls::assemble(text)
+            fn assemble(text: &[u8], facts: Facts) -> Result<u32, Refusal> {
+                $calls::assemble(text, facts)
             }
 
             fn place(
@@ -177,6 +182,7 @@ sums!(Loop, reference);
 /// What is lent, and the words to execute, by turns.
 struct State {
     k: usize,
+    facts: Facts,
     z: Vec<u8>,
     p: Vec<u8>,
     program: Vec<u8>,
@@ -195,6 +201,8 @@ impl State {
         let mut random = Random::new(k as u64);
         let mut state = State {
             k,
+            // As a caller has them: not known when this is compiled.
+            facts: unsafe { std::ptr::read_volatile(&FACTS) },
             z: vec![0; 512 * k],
             p: vec![0; 32 * k],
             program: vec![0; 1024],
@@ -234,7 +242,7 @@ impl State {
         let word = self.words[turn];
         self.program[4 * count..4 * count + 4].copy_from_slice(&word.to_le_bytes());
         let State { k, z, p, program, journal, .. } = self;
-        S::step(*k, z, p, program, journal).expect("a step");
+        S::step(*k, self.facts, z, p, program, journal).expect("a step");
         self.set_count(count);
     }
 
@@ -248,12 +256,12 @@ impl State {
     fn text<S: Calls>(&mut self, _: usize) {
         let turn = self.turn();
         let word = self.words[turn];
-        self.sum += S::text(word, &mut self.journal[..32]).expect("a text") as u64;
+        self.sum += S::text(word, self.facts, &mut self.journal[..32]).expect("a text") as u64;
     }
 
     fn assemble<S: Calls>(&mut self, _: usize) {
         let turn = self.turn();
-        self.sum += u64::from(S::assemble(&self.texts[turn]).expect("a word"));
+        self.sum += u64::from(S::assemble(&self.texts[turn], self.facts).expect("a word"));
     }
 
     fn panel<S: Calls>(&mut self, _: usize) {
@@ -288,7 +296,7 @@ impl State {
 
 fn text_of(word: u32) -> Vec<u8> {
     let mut out = [0; 32];
-    let length = reference::text(word, &mut out).expect("an accepted word");
+    let length = reference::text(word, FACTS, &mut out).expect("an accepted word");
     out[..length].to_vec()
 }
 
@@ -302,7 +310,7 @@ fn words(many: usize) -> Vec<u32> {
 fn word_of(row: &Row, random: &mut Random) -> u32 {
     loop {
         let word = row.value | random.word() & !row.mask;
-        if reference::decode(word).is_ok() {
+        if reference::decode(word, FACTS).is_ok() {
             return word;
         }
     }
@@ -310,7 +318,7 @@ fn word_of(row: &Row, random: &mut Random) -> u32 {
 
 /// The same word with other registers: Z0 the destination, the sources and the predicate by turns.
 fn with_registers(word: u32) -> Vec<u32> {
-    let row = TABLE[reference::decode(word).expect("an accepted word").row];
+    let row = TABLE[reference::decode(word, FACTS).expect("an accepted word").row];
     (0..64)
         .map(|turn| {
             let (n, m, g) = (1 + turn % 31, 1 + (turn + 7) % 31, turn % 8);

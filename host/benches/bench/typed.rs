@@ -3,7 +3,7 @@
 //!
 //! It answers and writes what the reference does; `tests/typed.rs` compares them.
 
-use ghishmadul::Refusal;
+use ghishmadul::{Facts, Refusal};
 
 /// A lane of some bytes, signed or not.
 trait Lane: Copy {
@@ -183,9 +183,9 @@ enum Form {
     Widening { signed: bool, form: Widening },
 }
 
-/// The word's form, and its size if that is allowed.
+/// The word's form, and its size if that is allowed on a core with these facts.
 #[inline]
-fn decode(word: u32) -> Result<(Form, u32), Refusal> {
+fn decode(word: u32, facts: Facts) -> Result<(Form, u32), Refusal> {
     let size = word >> 22 & 3;
     let form = match word & 0xFF3F_E000 {
         0x0400_2000 => Form::Across { signed: true },
@@ -205,10 +205,10 @@ fn decode(word: u32) -> Result<(Form, u32), Refusal> {
         },
     };
     let allowed = match form {
-        Form::Across { signed } => !signed || size < 3,
-        Form::Segments => true,
+        Form::Across { signed } => (!signed || size < 3) && (facts.sve || facts.sme),
+        Form::Segments => facts.sve2p1 || facts.sme2p1,
         Form::LongAcross { .. } => size < 2 || (size == 2 && word >> 30 & 1 == 1),
-        Form::Pairs { .. } | Form::Widening { .. } => size > 0,
+        Form::Pairs { .. } | Form::Widening { .. } => size > 0 && (facts.sve2 || facts.sme),
     };
     if allowed {
         Ok((form, size))
@@ -220,6 +220,7 @@ fn decode(word: u32) -> Result<(Form, u32), Refusal> {
 /// One step, refused and done as the engine's.
 pub fn step(
     k: usize,
+    facts: Facts,
     z: &mut [u8],
     p: &[u8],
     program: &[u8],
@@ -250,7 +251,7 @@ pub fn step(
     }
     let word = program.get(4 * count..4 * count + 4).ok_or(Refusal::End)?;
     let word = u32::from_le_bytes(word.try_into().expect("four bytes"));
-    let (form, size) = decode(word)?;
+    let (form, size) = decode(word, facts)?;
     let entry = entries.get_mut(count * entry..(count + 1) * entry).ok_or(Refusal::Full)?;
 
     // The entry keeps the destination's old bytes: a source that is the destination is read there.

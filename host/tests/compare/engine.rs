@@ -2,7 +2,7 @@
 //! and the reference's answers in the same way.
 
 use ghishmadul::boundary::*;
-use ghishmadul::{Kind, Lanes, Refusal};
+use ghishmadul::{Facts, Kind, Lanes, Refusal};
 use std::ops::Range;
 
 /// The answer number, then the values; zeros after them.
@@ -59,8 +59,11 @@ impl Values for ghishmadul::Word {
 
 impl Values for ghishmadul::Session {
     fn values(&self) -> Numbers {
-        let ghishmadul::Session { k, count, vectors, predicates, program } = *self;
-        [0, k as u64, count as u64, vectors as u64, predicates as u64, program as u64, 0, 0]
+        let ghishmadul::Session { k, count, vectors, predicates, program, facts } = *self;
+        let Facts { sve, sve2, sve2p1, sme, sme2p1 } = facts;
+        let bits = [sme2p1, sme, sve2p1, sve2, sve].map(u64::from);
+        let facts = bits.into_iter().fold(0, |facts, bit| facts << 1 | bit);
+        [0, k as u64, count as u64, vectors as u64, predicates as u64, program as u64, facts, 0]
     }
 }
 
@@ -105,26 +108,26 @@ impl Way {
         }
     }
 
-    pub fn decode(self, word: u32) -> Numbers {
+    pub fn decode(self, word: u32, facts: u8) -> Numbers {
         if self == Way::Safe {
-            return numbers(ghishmadul::decode(word));
+            return numbers(ghishmadul::decode(word, Facts::from_byte(facts)));
         }
-        let Fields { number, row, size, n, d, g, m, q } = unsafe { ln_decode(word) };
+        let Fields { number, row, size, n, d, g, m, q } = unsafe { ln_decode(word, facts) };
         [number, row, size, n, d, g, m, q]
     }
 
-    pub fn text(self, word: u32, out: &mut [u8]) -> Numbers {
+    pub fn text(self, word: u32, facts: u8, out: &mut [u8]) -> Numbers {
         if self == Way::Safe {
-            return numbers(ghishmadul::text(word, out));
+            return numbers(ghishmadul::text(word, Facts::from_byte(facts), out));
         }
-        answer(unsafe { ln_text(word, self.of_mut(out), out.len()) })
+        answer(unsafe { ln_text(word, facts, self.of_mut(out), out.len()) })
     }
 
-    pub fn assemble(self, text: &[u8]) -> Numbers {
+    pub fn assemble(self, text: &[u8], facts: u8) -> Numbers {
         if self == Way::Safe {
-            return numbers(ghishmadul::assemble(text));
+            return numbers(ghishmadul::assemble(text, Facts::from_byte(facts)));
         }
-        answer(unsafe { ln_assemble(self.of(text), text.len()) })
+        answer(unsafe { ln_assemble(self.of(text), text.len(), facts) })
     }
 
     pub fn fresh(self, k: usize, journal: &mut [u8]) -> Numbers {
@@ -137,17 +140,20 @@ impl Way {
     pub fn step(
         self,
         k: usize,
+        facts: u8,
         z: &mut [u8],
         p: &[u8],
         program: &[u8],
         journal: &mut [u8],
     ) -> Numbers {
         if self == Way::Safe {
-            return numbers(ghishmadul::step(k, z, p, program, journal));
+            let facts = Facts::from_byte(facts);
+            return numbers(ghishmadul::step(k, facts, z, p, program, journal));
         }
         number(unsafe {
             ln_step(
                 k,
+                facts,
                 self.of_mut(z),
                 z.len(),
                 self.of(p),
@@ -269,9 +275,9 @@ impl Way {
         if self == Way::Safe {
             return numbers(ghishmadul::read_session(bytes));
         }
-        let Session { number, k, count, vectors, predicates, program } =
+        let Session { number, k, count, vectors, predicates, program, facts } =
             unsafe { ln_read_session(self.of(bytes), bytes.len()) };
-        [number, k, count, vectors, predicates, program, 0, 0]
+        [number, k, count, vectors, predicates, program, facts, 0]
     }
 
     #[allow(clippy::too_many_arguments)]
@@ -279,6 +285,7 @@ impl Way {
         self,
         out: &mut [u8],
         k: usize,
+        facts: u8,
         z: &[u8],
         p: &[u8],
         program: &[u8],
@@ -286,14 +293,15 @@ impl Way {
         number: u64,
     ) -> Numbers {
         if self == Way::Safe {
-            let answer = Refusal::check(number);
-            return numbers(ghishmadul::write_line(out, k, z, p, program, position, answer));
+            let (facts, answer) = (Facts::from_byte(facts), Refusal::check(number));
+            return numbers(ghishmadul::write_line(out, k, facts, z, p, program, position, answer));
         }
         answer(unsafe {
             ln_write_line(
                 self.of_mut(out),
                 out.len(),
                 k,
+                facts,
                 self.of(z),
                 z.len(),
                 self.of(p),

@@ -2,7 +2,8 @@
 
 use crate::lengths::{low_bits, LEGAL, REFUSED};
 use crate::random::Random;
-use reference::{Row, TABLE};
+use ghishmadul::{Facts, Refusal};
+use reference::{facts_of, Row, ALL, HIGHER, TABLE};
 
 const LETTERS: [&str; 5] = ["b", "h", "s", "d", "q"];
 const LONG: usize = 10_000;
@@ -49,13 +50,35 @@ pub fn every_word_of_a_row() -> impl Iterator<Item = u32> {
     })
 }
 
-pub fn accepted_word(random: &mut Random) -> u32 {
+pub fn accepted_word(random: &mut Random, facts: Facts) -> u32 {
     loop {
         let word = word(random);
-        if reference::decode(word).is_ok() {
+        if reference::decode(word, facts).is_ok() {
             return word;
         }
     }
+}
+
+/// A byte of facts: any, but often one with all of them, with none, or without higher bits.
+pub fn facts(random: &mut Random) -> u8 {
+    let any = random.byte();
+    match random.below(8) {
+        0 | 1 => any | ALL,
+        2 => any & HIGHER,
+        3 => any & ALL,
+        _ => any,
+    }
+}
+
+/// A byte of facts that lacks what the word needs; for a word that needs nothing, one without any.
+pub fn facts_against(random: &mut Random, word: u32) -> u8 {
+    for _ in 0..12 {
+        let any = random.byte();
+        if reference::decode(word, facts_of(any)) == Err(Refusal::Undefined) {
+            return any;
+        }
+    }
+    random.byte() & HIGHER
 }
 
 /// A length that there is.
@@ -231,7 +254,8 @@ pub fn journal(random: &mut Random, k: usize, words: usize, journal: &mut Vec<u8
 pub fn text(random: &mut Random, text: &mut Vec<u8>) {
     text.clear();
     let mut out = [0; 32];
-    let length = reference::text(accepted_word(random), &mut out).expect("an accepted word");
+    let word = accepted_word(random, Facts::ALL);
+    let length = reference::text(word, Facts::ALL, &mut out).expect("an accepted word");
     match random.below(16) {
         0..=4 => text.extend(&out[..length]),
         5..=9 => {
@@ -340,23 +364,29 @@ pub fn session(random: &mut Random, session: &mut Vec<u8>) {
     let k = legal_length(random);
     let any = random.below(257);
     let words = random.pick(&[0, 1, 2, 255, 256, any]);
+    // The version, and where the vector file starts.
+    let (version, start) = random.pick(&[(1, 8), (2, 9), (2, 9)]);
     session.clear();
-    session.resize(8 + 544 * k + 4 * words, 0);
+    session.resize(start + 544 * k + 4 * words, 0);
     random.fill(session);
-    session[..5].copy_from_slice(b"LNW\x01\x00");
+    session[..3].copy_from_slice(b"LNW");
+    session[3..5].copy_from_slice(&[version, 0]);
     session[5] = k as u8;
     session[6..8].copy_from_slice(&(words as u16).to_le_bytes());
-    match random.below(16) {
+    if version == 2 {
+        session[8] &= ALL;
+    }
+    match random.below(24) {
         0 => session.push(0),
         1 => {
             session.pop();
         }
         2 => {
-            let place = random.below(8);
+            let place = random.below(start);
             session[place] ^= 1 << random.below(8);
         }
         3 => {
-            let place = random.below(8);
+            let place = random.below(start);
             session[place] = random.byte();
         }
         4 => session[5] = session_length(random) as u8,
@@ -364,16 +394,23 @@ pub fn session(random: &mut Random, session: &mut Vec<u8>) {
             // A count that is wrong, in a session of just its size.
             let words: u16 = random.pick(&[257, 258, 512]);
             session[6..8].copy_from_slice(&words.to_le_bytes());
-            session.resize(8 + 544 * k + 4 * words as usize, 0);
+            session.resize(start + 544 * k + 4 * words as usize, 0);
         }
         6 => session.truncate(random.below(10)),
-        7 => {
+        7 | 8 => {
             // A length that is wrong, in a session of just its size.
             let k = session_length(random);
             session[5] = k as u8;
-            session.resize(8 + 544 * k + 4 * words, 0);
+            session.resize(start + 544 * k + 4 * words, 0);
         }
-        8 => session.resize(random.pick(&[0, 1, 7, 8, 551, 552, LONG]), 0),
+        9 => session.resize(random.pick(&[0, 1, 7, 8, 9, 551, 552, 553, LONG]), 0),
+        10 | 11 => {
+            // A version that is wrong, laid out as either.
+            let version: u16 = random.pick(&[0, 3, 257, 258]);
+            session[3..5].copy_from_slice(&version.to_le_bytes());
+        }
+        12 | 13 if version == 2 => session[8] |= random.pick(&[0x20, 0x40, 0x80, HIGHER]),
+        14 => session[3] = 3 - version,
         _ => {}
     }
 }

@@ -56,7 +56,10 @@ pub fn of_a_session(bytes: &[u8]) -> Option<usize> {
     let head = bytes.get(..8)?;
     let k = head[5] as usize;
     let words = u16::from_le_bytes([head[6], head[7]]) as usize;
-    let right =
-        head[..5] == *b"LNW\x01\x00" && words <= 256 && bytes.len() == 8 + 544 * k + 4 * words;
-    right.then_some(k)
+    let start = match &head[..5] {
+        b"LNW\x01\x00" => 8,
+        b"LNW\x02\x00" if *bytes.get(8)? <= reference::ALL => 9,
+        _ => return None,
+    };
+    (words <= 256 && bytes.len() == start + 544 * k + 4 * words).then_some(k)
 }

@@ -4,28 +4,35 @@
 //! The variable LN_INPUTS is the number of inputs (a million), LN_SEED the seed.
 
 mod engine;
+mod facts;
 mod guarded;
 mod inputs;
 mod lengths;
 mod random;
 mod reached;
+mod sessions;
 mod tally;
 
 use engine::{numbers, Numbers, Way};
-use ghishmadul::{Kind, Lanes, Refusal};
+use ghishmadul::{Facts, Kind, Lanes, Refusal};
 use guarded::{Guard, Guarded};
 use random::Random;
+use reference::{facts_of, ALL};
 use std::io::Write;
+use std::sync::atomic::{AtomicBool, Ordering};
 use tally::{Call, Tally};
 
 /// More than any length of a part.
 const MOST: usize = 70_000;
 
-/// So many inputs reach every answer of every call, every length that is refused, and steps of every row,
-/// size and destination; fewer may miss some.
+/// So many inputs reach every answer of every call, every length that is refused, steps of every row, size
+/// and destination, every set of facts, and every kind of session; fewer may miss some.
 const ENOUGH: u64 = 100_000;
 
 const UNDEFINED: u64 = 8;
+
+/// Whether a test has found a difference: the others need not go on then.
+static FOUND: AtomicBool = AtomicBool::new(false);
 
 /// What the calls are lent. The reference works on the bytes here, the engine on its guarded parts.
 #[derive(Default)]
@@ -107,6 +114,7 @@ impl<'a> Comparison<'a> {
 
     /// Fails.
     fn stop(&self, call: Call, what: &str) -> ! {
+        FOUND.store(true, Ordering::Relaxed);
         let Parts { z, p, program, journal, out } = &self.parts;
         panic!(
             "{:?}, input {}, guard {:?}: {}\n\
@@ -124,11 +132,50 @@ impl<'a> Comparison<'a> {
         )
     }
 
+    /// Fails if another test has found a difference.
+    fn go_on(&self) {
+        assert!(!FOUND.load(Ordering::Relaxed), "another test found a difference");
+    }
+
+    /// Counts an answer about a word that the facts were looked at for.
+    fn count_facts(&mut self, call: Call, way: Way, facts: u8, word: u32, number: u64) {
+        self.tally.count_facts(call, facts, way != Way::Safe, word, number);
+    }
+
     fn decode(&mut self) {
         let way = self.way();
         let word = inputs::word(&mut self.random);
-        let reference = numbers(reference::decode(word));
-        self.same(Call::Decode, way.decode(word), reference, &[word as usize]);
+        let facts = inputs::facts(&mut self.random);
+        let reference = self.decode_one(way, word, facts);
+        self.count_facts(Call::Decode, way, facts, word, reference[0]);
+    }
+
+    /// The reference's answer too.
+    fn decode_one(&mut self, way: Way, word: u32, facts: u8) -> Numbers {
+        let reference = numbers(reference::decode(word, facts_of(facts)));
+        let given = [word as usize, facts as usize];
+        self.same(Call::Decode, way.decode(word, facts), reference, &given);
+        reference
+    }
+
+    /// Into the output as it is set up; the reference's answer too.
+    fn text_of_one(&mut self, way: Way, word: u32, facts: u8) -> Numbers {
+        self.engine.out.set(&self.parts.out);
+        let engine = way.text(word, facts, self.engine.out.part());
+        let reference = numbers(reference::text(word, facts_of(facts), &mut self.parts.out));
+        self.same(Call::Text, engine, reference, &[word as usize, facts as usize]);
+        self.agree(Call::Text, &["out"]);
+        reference
+    }
+
+    /// The text that is set up as the output; the reference's answer too.
+    fn assemble_one(&mut self, way: Way, facts: u8) -> Numbers {
+        self.engine.out.set(&self.parts.out);
+        let engine = way.assemble(self.engine.out.part(), facts);
+        let reference = numbers(reference::assemble(&self.parts.out, facts_of(facts)));
+        self.same(Call::Assemble, engine, reference, &[facts as usize]);
+        self.agree(Call::Assemble, &["out"]);
+        reference
     }
 
     fn text(&mut self) {
@@ -141,56 +188,66 @@ impl<'a> Comparison<'a> {
             3 if self.random.one_in(20) => 10_000,
             _ => 32,
         };
+        let facts = inputs::facts(&mut self.random);
         inputs::content(&mut self.random, &mut self.parts.out, bytes);
-        self.engine.out.set(&self.parts.out);
-        let engine = way.text(word, self.engine.out.part());
-        let reference = numbers(reference::text(word, &mut self.parts.out));
-        self.same(Call::Text, engine, reference, &[word as usize]);
-        self.agree(Call::Text, &["out"]);
+        let reference = self.text_of_one(way, word, facts);
+        self.count_facts(Call::Text, way, facts, word, reference[0]);
     }
 
     fn assemble(&mut self) {
         let way = self.way();
+        let facts = inputs::facts(&mut self.random);
         inputs::text(&mut self.random, &mut self.parts.out);
-        self.engine.out.set(&self.parts.out);
-        let engine = way.assemble(self.engine.out.part());
-        let reference = numbers(reference::assemble(&self.parts.out));
-        self.same(Call::Assemble, engine, reference, &[]);
-        self.agree(Call::Assemble, &["out"]);
+        let reference = self.assemble_one(way, facts);
+        if let Ok(word) = reference::assemble(&self.parts.out, Facts::ALL) {
+            self.count_facts(Call::Assemble, way, facts, word, reference[0]);
+        }
     }
 
-    /// Every word that a row matches: its fields, its text, and the text read back.
+    /// Every word that a row matches: its fields, its text, and the text read back. Every byte of facts has
+    /// its turn, and a word that is refused for want of a fact is asked with all facts too.
     fn every_word(&mut self) {
-        let mut counts = [0; 15];
-        for word in inputs::every_word_of_a_row() {
+        let (mut accepted, mut wanting, mut undefined) = (0, 0, 0);
+        for (number, word) in inputs::every_word_of_a_row().enumerate() {
+            self.go_on();
             let way = self.way();
-            let fields = numbers(reference::decode(word));
-            self.same(Call::Decode, way.decode(word), fields, &[word as usize]);
-            counts[fields[0] as usize] += 1;
-
-            self.parts.out.clear();
-            self.parts.out.resize(32, 0xEE);
-            self.engine.out.set(&self.parts.out);
-            let engine = way.text(word, self.engine.out.part());
-            let reference = numbers(reference::text(word, &mut self.parts.out));
-            self.same(Call::Text, engine, reference, &[word as usize]);
-            self.agree(Call::Text, &["out"]);
-
-            if reference[0] == 0 {
-                self.parts.out.truncate(reference[1] as usize);
-                self.engine.out.set(&self.parts.out);
-                let engine = way.assemble(self.engine.out.part());
-                self.same(Call::Assemble, engine, numbers(Ok(word)), &[word as usize]);
-                let reference = numbers(reference::assemble(&self.parts.out));
-                self.same(Call::Assemble, engine, reference, &[word as usize]);
+            let facts = (number ^ number >> 8) as u8;
+            if self.word_and_text(way, word, facts) {
+                accepted += 1;
+            } else if self.decode_one(way, word, ALL)[0] == 0 {
+                wanting += 1;
+                self.word_and_text(way, word, ALL);
+                let answer = self.assemble_one(way, facts);
+                assert_eq!(answer, numbers(Err::<u32, _>(Refusal::Text)), "a forbidden text");
+            } else {
+                undefined += 1;
             }
         }
-        say(&format!("words of a row: {} accepted, {} undefined", counts[0], counts[8]));
+        say(&format!(
+            "words of a row: {} accepted, {} of them with further facts alone, {} undefined",
+            accepted + wanting,
+            wanting,
+            undefined
+        ));
         assert_eq!(
-            (counts[0], counts[8]),
-            (1_722_368, 555_008),
-            "the counts worked out from the table"
+            (accepted + wanting, wanting, undefined),
+            (1_722_368, 428_032, 555_008),
+            "the counts worked out from the table: a quarter of the sets has neither of two facts"
         );
+    }
+
+    /// A word's fields, its text, and the text read back; whether it is accepted.
+    fn word_and_text(&mut self, way: Way, word: u32, facts: u8) -> bool {
+        let fields = self.decode_one(way, word, facts);
+        self.parts.out.clear();
+        self.parts.out.resize(32, 0xEE);
+        let text = self.text_of_one(way, word, facts);
+        assert_eq!(fields[0], text[0], "a text exactly where there are fields");
+        if text[0] == 0 {
+            self.parts.out.truncate(text[1] as usize);
+            assert_eq!(self.assemble_one(way, facts), numbers(Ok(word)), "the word of its text");
+        }
+        text[0] == 0
     }
 
     /// Every name with three vector registers, each with every letter: those of a widening word, and all
@@ -199,10 +256,8 @@ impl<'a> Comparison<'a> {
         let mut accepted = 0;
         for text in inputs::every_text_of_three_lanes() {
             self.parts.out = text.into_bytes();
-            self.engine.out.set(&self.parts.out);
-            let engine = self.way().assemble(self.engine.out.part());
-            let reference = numbers(reference::assemble(&self.parts.out));
-            self.same(Call::Assemble, engine, reference, &[]);
+            let way = self.way();
+            let reference = self.assemble_one(way, ALL);
             accepted += u64::from(reference[0] == 0);
         }
         assert_eq!(accepted, 16 * 3, "a text for each widening row and size");
@@ -240,23 +295,28 @@ impl<'a> Comparison<'a> {
         k
     }
 
-    fn move_forward(&mut self, way: Way, k: usize) -> u64 {
+    fn move_forward(&mut self, way: Way, k: usize, facts: u8) -> u64 {
         let Parts { program, journal, .. } = &self.parts;
         let position = reference::position(k, journal);
         let next = position.and_then(|position| reference::read_word(program, position));
         let engine = way.step(
             k,
+            facts,
             self.engine.z.part(),
             self.engine.p.part(),
             self.engine.program.part(),
             self.engine.journal.part(),
         );
         let Parts { z, p, program, journal, .. } = &mut self.parts;
-        let reference = numbers(reference::step(k, z, p, program, journal));
-        self.same(Call::Step, engine, reference, &[k]);
+        let reference = numbers(reference::step(k, facts_of(facts), z, p, program, journal));
+        self.same(Call::Step, engine, reference, &[k, facts as usize]);
         self.agree(Call::Step, &["z", "p", "program", "journal"]);
-        if let (Ok(next), 0 | UNDEFINED) = (next, reference[0]) {
-            self.tally.count_word(next.word);
+        if let Ok(next) = next {
+            self.count_facts(Call::Step, way, facts, next.word, reference[0]);
+            let of_the_size = || reference::decode(next.word, Facts::ALL).is_err();
+            if reference[0] == 0 || reference[0] == UNDEFINED && of_the_size() {
+                self.tally.count_word(next.word);
+            }
         }
         reference[0]
     }
@@ -291,7 +351,8 @@ impl<'a> Comparison<'a> {
     fn step(&mut self) {
         let way = self.way();
         let k = self.state();
-        self.move_forward(way, k);
+        let facts = inputs::facts(&mut self.random);
+        self.move_forward(way, k, facts);
     }
 
     fn back(&mut self) {
@@ -301,20 +362,21 @@ impl<'a> Comparison<'a> {
     }
 
     /// Moves forward and back from a fresh journal; a back brings the former bytes again, and at the end
-    /// the position is the number of steps that were not taken back.
+    /// the position is the number of steps that were not taken back. The facts are mostly the same.
     fn moves(&mut self) {
         let k = inputs::legal_length(&mut self.random);
         let entry = 1 + 16 * k;
         let Comparison { random, parts, .. } = self;
         inputs::content(random, &mut parts.z, 512 * k);
         inputs::content(random, &mut parts.p, 32 * k);
+        let facts = inputs::facts(random);
         parts.program.clear();
         let words = random.pick(&[0, 1, 5, 40, 100, 256, 256]);
         for _ in 0..words {
             let word = if random.one_in(200) {
                 inputs::word(random)
             } else {
-                inputs::accepted_word(random)
+                inputs::accepted_word(random, facts_of(facts))
             };
             parts.program.extend(word.to_le_bytes());
         }
@@ -350,7 +412,9 @@ impl<'a> Comparison<'a> {
                 }
             } else {
                 let before = (self.parts.z.clone(), self.parts.journal.clone());
-                if self.move_forward(way, k) == 0 {
+                let others = self.random.one_in(20);
+                let facts = if others { inputs::facts(&mut self.random) } else { facts };
+                if self.move_forward(way, k, facts) == 0 {
                     former.push(before);
                 }
             }
@@ -466,6 +530,7 @@ impl<'a> Comparison<'a> {
         let reference = numbers(reference::read_session(&self.parts.out));
         let given: Vec<usize> = lengths::of_a_session(&self.parts.out).into_iter().collect();
         self.same(Call::ReadSession, engine, reference, &given);
+        self.tally.count_session(&self.parts.out);
         self.agree(Call::ReadSession, &["out"]);
     }
 
@@ -476,7 +541,13 @@ impl<'a> Comparison<'a> {
         self.engine.program.set(&self.parts.program);
         let words = self.parts.program.len() / 4;
         let position = self.mostly_below(words + 1);
-        let number = inputs::answer_number(&mut self.random);
+        let told = self.random.one_in(3);
+        let number = if told { inputs::answer_number(&mut self.random) } else { 0 };
+        let next = reference::read_word(&self.parts.program, position).map_or(0, |next| next.word);
+        let facts = match self.random.below(3) {
+            0 => inputs::facts_against(&mut self.random, next),
+            _ => inputs::facts(&mut self.random),
+        };
         let bytes = match self.random.below(12) {
             0 => self.random.below(546),
             1 => 545,
@@ -488,6 +559,7 @@ impl<'a> Comparison<'a> {
         let engine = way.write_line(
             self.engine.out.part(),
             k,
+            facts,
             self.engine.z.part(),
             self.engine.p.part(),
             self.engine.program.part(),
@@ -495,30 +567,36 @@ impl<'a> Comparison<'a> {
             number,
         );
         let Parts { z, p, program, out, .. } = &mut self.parts;
-        let answer = Refusal::check(number);
-        let reference = numbers(reference::write_line(out, k, z, p, program, position, answer));
-        self.same(Call::WriteLine, engine, reference, &[k, position, number as usize]);
+        let (named, answer) = (facts_of(facts), Refusal::check(number));
+        let line = reference::write_line(out, k, named, z, p, program, position, answer);
+        let reference = numbers(line);
+        let given = [k, facts as usize, position, number as usize];
+        self.same(Call::WriteLine, engine, reference, &given);
         self.agree(Call::WriteLine, &["z", "p", "program", "out"]);
+        if number == 0 {
+            self.count_facts(Call::WriteLine, way, facts, next, reference[0]);
+        }
     }
 
     /// So many inputs, at least.
     fn run(&mut self, inputs: u64) {
         let until = self.tally.total() + inputs;
         while self.tally.total() < until {
+            self.go_on();
             match self.random.below(100) {
-                0..=15 => self.decode(),
-                16..=29 => self.text(),
-                30..=51 => self.assemble(),
-                52..=53 => self.position(),
-                54..=55 => self.fresh(),
-                56..=66 => self.step(),
-                67..=72 => self.back(),
-                73..=77 => self.register_place(),
-                78..=83 => self.panel(),
-                84..=91 => self.subtotal(),
-                92..=94 => self.read_word(),
-                95..=96 => self.read_session(),
-                97..=98 => self.write_line(),
+                0..=14 => self.decode(),
+                15..=28 => self.text(),
+                29..=48 => self.assemble(),
+                49..=50 => self.position(),
+                51..=52 => self.fresh(),
+                53..=63 => self.step(),
+                64..=69 => self.back(),
+                70..=74 => self.register_place(),
+                75..=80 => self.panel(),
+                81..=88 => self.subtotal(),
+                89..=91 => self.read_word(),
+                92..=94 => self.read_session(),
+                95..=98 => self.write_line(),
                 _ => self.moves(),
             }
         }
@@ -564,6 +642,9 @@ fn inputs_of_every_call_agree() {
     say(&format!("{} inputs compared, 0 differ, seed {}", tally.total(), seed));
     if !missing.is_empty() {
         say(&format!("not reached by these inputs: {}", missing));
-        assert!(inputs < ENOUGH, "so many inputs reach every answer, every length and every row");
+        assert!(
+            inputs < ENOUGH,
+            "so many inputs reach every answer, length, row, set of facts and session"
+        );
     }
 }

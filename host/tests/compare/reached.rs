@@ -1,6 +1,7 @@
 //! Which words the steps had that were compared: each row at each size, and where its destination was.
 
 use crate::inputs::has_second;
+use ghishmadul::Facts;
 use reference::TABLE;
 use std::fmt::Write;
 
@@ -88,7 +89,7 @@ fn name(row: usize, q: usize) -> String {
 }
 
 fn is_accepted(row: usize, q: usize, size: usize) -> bool {
-    reference::decode(TABLE[row].value | (q << 30 | size << 22) as u32).is_ok()
+    reference::decode(TABLE[row].value | (q << 30 | size << 22) as u32, Facts::ALL).is_ok()
 }
 
 /// How many places the destination can have.

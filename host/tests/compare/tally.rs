@@ -1,11 +1,14 @@
-//! How often each call gave each answer, which lengths were refused, and which words were stepped.
+//! How often each call gave each answer, which lengths were refused, which words were stepped, under
+//! which facts, and which sessions were read.
 
+use crate::facts::UnderFacts;
 use crate::lengths::{self, Lengths};
 use crate::reached::Reached;
+use crate::sessions::Sessions;
 use ghishmadul::Refusal;
 use std::fmt::Write;
 
-#[derive(Clone, Copy, Debug)]
+#[derive(Clone, Copy, Debug, PartialEq)]
 pub enum Call {
     Decode,
     Text,
@@ -47,6 +50,8 @@ pub struct Tally {
     counts: [[u64; 15]; CALLS.len()],
     lengths: [Lengths; CALLS.len()],
     steps: Reached,
+    facts: UnderFacts,
+    sessions: Sessions,
 }
 
 impl Tally {
@@ -65,12 +70,22 @@ impl Tally {
         self.steps.count(word);
     }
 
+    /// Counts an answer about a word that the facts were looked at for.
+    pub fn count_facts(&mut self, call: Call, facts: u8, higher: bool, word: u32, number: u64) {
+        self.facts.count(call, facts, higher, word, number);
+    }
+
+    /// Counts a session that was read.
+    pub fn count_session(&mut self, bytes: &[u8]) {
+        self.sessions.count(bytes);
+    }
+
     pub fn total(&self) -> u64 {
         self.counts.iter().flatten().sum()
     }
 
-    /// A line for each call: its answers by number; then the lengths that were refused, and the words that
-    /// were stepped.
+    /// A line for each call: its answers by number; then the lengths that were refused, the words that were
+    /// stepped, the facts and the sessions.
     pub fn table(&self) -> String {
         let mut table = format!("{:15}{:>9}", "call", "done");
         for number in 1..15 {
@@ -86,7 +101,8 @@ impl Tally {
                 }
             }
         }
-        table + "\n\n" + &self.refused_lengths() + "\n\n" + &self.steps.table()
+        let further = [self.steps.table(), self.facts.table(), self.sessions.table()];
+        table + "\n\n" + &self.refused_lengths() + "\n\n" + &further.join("\n\n")
     }
 
     /// A line for each call that refuses lengths: how often each was refused.
@@ -107,7 +123,7 @@ impl Tally {
     }
 
     /// For each call the answers that it can give and that never came, and the lengths that it never
-    /// refused; and the words never stepped.
+    /// refused; and the words never stepped, the facts never asked and the sessions never read.
     pub fn missing(&self) -> Vec<String> {
         let calls = CALLS.iter().zip(&self.counts);
         let answers =
@@ -115,7 +131,8 @@ impl Tally {
         let lengths = self.by_length().flat_map(|(name, lengths)| {
             lengths.missing().into_iter().map(move |k| format!("{} k {}", name, k))
         });
-        answers.chain(lengths).chain(self.steps.missing()).collect()
+        let further = [self.steps.missing(), self.facts.missing(), self.sessions.missing()];
+        answers.chain(lengths).chain(further.into_iter().flatten()).collect()
     }
 }
 
