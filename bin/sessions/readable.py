@@ -6,6 +6,7 @@ from .lanes import active, bytes_of, lanes_of, predicate_of, signed
 from .saying import Bad, echo
 
 WIDTHS = {"b": 1, "h": 2, "s": 4, "d": 8}  # bytes of a lane
+FACTS = [name.lower() for name in words.FACTS]  # as a line of facts has them
 
 # '//' and ';' anywhere; '#' first in its line, or after white space where no digit follows, so that an operand '#14' stays
 COMMENT = re.compile(r"//|;|^[ \t]*#|(?<=[ \t])#(?![0-9])")
@@ -64,7 +65,7 @@ class Text:
     """What the text has said so far."""
 
     def __init__(self):
-        self.k, self.vectors, self.predicates, self.words, self.in_program = None, {}, {}, [], False
+        self.k, self.facts, self.vectors, self.predicates, self.words, self.in_program = None, None, {}, {}, [], False
 
     def line(self, line):
         first, *rest = line.split(" ")
@@ -72,6 +73,8 @@ class Text:
             self.program_line(line, first)
         elif first == "k":
             self.length(rest)
+        elif first == "facts":
+            self.core(rest)
         elif first == "program":
             self.start(rest)
         elif first in words.NAMES or first.startswith(".") or DISASSEMBLED.match(line):
@@ -86,6 +89,19 @@ class Text:
             raise Bad("a length is %s, as 'k 1'%s" % (layout.any_length(), not_this(rest)))
         self.k = int(rest[0])
 
+    def core(self, rest):
+        if self.facts is not None:
+            raise Bad("the facts are given twice: one line has all of them, as 'facts sve sve2'")
+        facts = 0
+        for name in rest:
+            if name not in FACTS:
+                raise Bad("%s is no fact: they are %s, and 'facts' alone is a core with none of them%s"
+                          % (echo(name), ", ".join(FACTS), no_comma(name, "names")))
+            if facts >> FACTS.index(name) & 1:
+                raise Bad("the fact %s is given twice" % name)
+            facts |= 1 << FACTS.index(name)
+        self.facts = facts
+
     def start(self, rest):
         if rest:
             raise Bad("'program' stands alone: the words are on the lines after it")
@@ -96,7 +112,7 @@ class Text:
     def register(self, name, rest):
         found = REGISTER.match(name)
         if not found:
-            raise Bad("%s is neither k, nor a register as z1, z1.h, p0 or p0.h, nor program%s" % (echo(name), hint(name)))
+            raise Bad("%s is neither k, nor facts, nor a register as z1, z1.h, p0 or p0.h, nor program%s" % (echo(name), hint(name)))
         if self.k is None:
             raise Bad("the length stands first, as 'k 1'")
         kind, digits, letter = found.groups()
@@ -134,8 +150,8 @@ class Text:
     def program_line(self, line, first):
         if HEADING.match(line):
             return
-        if first in ("k", "program") or REGISTER.match(first):
-            raise Bad("%s stands after 'program', and only words do: the registers stand before it" % echo(first))
+        if first in ("k", "facts", "program") or REGISTER.match(first):
+            raise Bad("%s stands after 'program', and only words do: the length, the facts and the registers stand before it" % echo(first))
         self.words.append(word_of(line))
         if len(self.words) > layout.MOST_WORDS:
             raise Bad("this is word %d, and a program has at most %d" % (len(self.words), layout.MOST_WORDS))
@@ -144,7 +160,7 @@ class Text:
         zero_vector, zero_predicate = bytes(layout.vector_bytes(self.k)), bytes(layout.predicate_bytes(self.k))
         vectors = [self.vectors.get(number, zero_vector) for number in range(layout.VECTORS)]
         predicates = [self.predicates.get(number, zero_predicate) for number in range(layout.PREDICATES)]
-        return layout.Session(self.k, vectors, predicates, self.words)
+        return layout.Session(self.k, vectors, predicates, self.words, self.facts)
 
 
 def not_this(rest):
@@ -155,6 +171,8 @@ def hint(name):
     """What was meant by a line's first part, where that can be told."""
     if re.match(r"k[0-9:=]", name):
         return " (a space stands after k, as 'k 1')"
+    if re.match(r"facts?\b", name):
+        return " (facts are given as 'facts sve sve2')"
     if re.match(r"[vbhsdq][0-9]", name):
         return " (v, d and the like are low parts of z registers: give z)"
     if re.match(r"program.", name):
@@ -185,9 +203,9 @@ def bit_of(word):
     return word == "1"
 
 
-def no_comma(word):
+def no_comma(word, what="values"):
     if "," in word:
-        return "; values stand apart by spaces, without commas"
+        return "; %s stand apart by spaces, without commas" % what
     return "; a comment's '#' has a space before it and no digit after it" if "#" in word else ""
 
 
@@ -223,6 +241,8 @@ def text_of(session):
     """A session's text; session_of reads the same session from it."""
     uses = first_uses(session.words)
     lines = ["k %d" % session.k]
+    if session.facts is not None:
+        lines.append(" ".join(["facts"] + [name.lower() for name in words.fact_names(session.facts)]))
     for number, data in enumerate(session.vectors):
         if any(data):
             lines.append(vector_line(number, data, uses.get(("z", number))))
@@ -230,14 +250,20 @@ def text_of(session):
         if any(data):
             lines.append(predicate_line(number, data, uses.get(("p", number))))
     lines.append("program")
-    for word in session.words:
-        number, _ = words.decoded(word)
-        lines.append(words.named(word) or ".inst 0x%08x  # %s" % (word, {7: "7 UNKNOWN", 8: "8 UNDEFINED"}[number]))
+    lines += [word_line(word, layout.facts_of(session)) for word in session.words]
     return "\n".join(lines) + "\n"
 
 
+def word_line(word, facts):
+    """A word's text, or itself in hex; where walk refuses it on a core of these facts, a comment says so."""
+    number, lacks = words.decoded(word)[0], words.lacking(word, facts)
+    if number:
+        return ".inst 0x%08x  # %s%s" % (word, {7: "7 UNKNOWN", 8: "8 UNDEFINED"}[number], lacks and ", and " + lacks)
+    return words.named(word) + (lacks and "  # %s: walk refuses it with 8 UNDEFINED" % lacks)
+
+
 def first_uses(program):
-    """The width and sign at which each register is first read by the program."""
+    """The width and sign at which each register is first read by the program, whatever the facts are."""
     uses = {}
     for word in program:
         number, parts = words.decoded(word)

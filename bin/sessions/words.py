@@ -20,31 +20,38 @@ PAIRWISE = Form(0xFF3FE000, "z{d}.{T}, p{g}/m, z{n}.{H}")
 WIDENING = Form(0xFF20FC00, "z{d}.{T}, z{n}.{H}, z{m}.{H}", "zN and zM have half the width of zD")
 WIDE = Form(0xFF20FC00, "z{d}.{T}, z{n}.{T}, z{m}.{H}", "zN has the width of zD, and zM half of it")
 
-Row = namedtuple("Row", "name value form sizes")
+# The facts about a core, in the order of their bits; none of them implies another.
+FACTS = ("SVE", "SVE2", "SVE2p1", "SME", "SME2p1")
+SVE, SVE2, SVE2P1, SME, SME2P1 = (1 << bit for bit in range(5))
+EVERY_FACT, NOTHING = 31, 0
+
+# A row's need is a set of facts: a core has the row where it has one of them, or where the row needs nothing. What a word means and how it
+# reads does not depend on facts.
+Row = namedtuple("Row", "name value form sizes need")
 ROWS = [
-    Row("saddv", 0x04002000, REDUCTION, (0, 1, 2)),
-    Row("uaddv", 0x04012000, REDUCTION, (0, 1, 2, 3)),
-    Row("addqv", 0x04052000, SEGMENT, (0, 1, 2, 3)),
-    Row("saddlv", 0x0E303800, LONG, (0, 1, 2)),
-    Row("uaddlv", 0x2E303800, LONG, (0, 1, 2)),
-    Row("sadalp", 0x4404A000, PAIRWISE, (1, 2, 3)),
-    Row("uadalp", 0x4405A000, PAIRWISE, (1, 2, 3)),
-    Row("saddlb", 0x45000000, WIDENING, (1, 2, 3)),
-    Row("saddlt", 0x45000400, WIDENING, (1, 2, 3)),
-    Row("uaddlb", 0x45000800, WIDENING, (1, 2, 3)),
-    Row("uaddlt", 0x45000C00, WIDENING, (1, 2, 3)),
-    Row("ssublb", 0x45001000, WIDENING, (1, 2, 3)),
-    Row("ssublt", 0x45001400, WIDENING, (1, 2, 3)),
-    Row("usublb", 0x45001800, WIDENING, (1, 2, 3)),
-    Row("usublt", 0x45001C00, WIDENING, (1, 2, 3)),
-    Row("saddwb", 0x45004000, WIDE, (1, 2, 3)),
-    Row("saddwt", 0x45004400, WIDE, (1, 2, 3)),
-    Row("uaddwb", 0x45004800, WIDE, (1, 2, 3)),
-    Row("uaddwt", 0x45004C00, WIDE, (1, 2, 3)),
-    Row("ssubwb", 0x45005000, WIDE, (1, 2, 3)),
-    Row("ssubwt", 0x45005400, WIDE, (1, 2, 3)),
-    Row("usubwb", 0x45005800, WIDE, (1, 2, 3)),
-    Row("usubwt", 0x45005C00, WIDE, (1, 2, 3)),
+    Row("saddv", 0x04002000, REDUCTION, (0, 1, 2), SVE | SME),
+    Row("uaddv", 0x04012000, REDUCTION, (0, 1, 2, 3), SVE | SME),
+    Row("addqv", 0x04052000, SEGMENT, (0, 1, 2, 3), SVE2P1 | SME2P1),
+    Row("saddlv", 0x0E303800, LONG, (0, 1, 2), NOTHING),
+    Row("uaddlv", 0x2E303800, LONG, (0, 1, 2), NOTHING),
+    Row("sadalp", 0x4404A000, PAIRWISE, (1, 2, 3), SVE2 | SME),
+    Row("uadalp", 0x4405A000, PAIRWISE, (1, 2, 3), SVE2 | SME),
+    Row("saddlb", 0x45000000, WIDENING, (1, 2, 3), SVE2 | SME),
+    Row("saddlt", 0x45000400, WIDENING, (1, 2, 3), SVE2 | SME),
+    Row("uaddlb", 0x45000800, WIDENING, (1, 2, 3), SVE2 | SME),
+    Row("uaddlt", 0x45000C00, WIDENING, (1, 2, 3), SVE2 | SME),
+    Row("ssublb", 0x45001000, WIDENING, (1, 2, 3), SVE2 | SME),
+    Row("ssublt", 0x45001400, WIDENING, (1, 2, 3), SVE2 | SME),
+    Row("usublb", 0x45001800, WIDENING, (1, 2, 3), SVE2 | SME),
+    Row("usublt", 0x45001C00, WIDENING, (1, 2, 3), SVE2 | SME),
+    Row("saddwb", 0x45004000, WIDE, (1, 2, 3), SVE2 | SME),
+    Row("saddwt", 0x45004400, WIDE, (1, 2, 3), SVE2 | SME),
+    Row("uaddwb", 0x45004800, WIDE, (1, 2, 3), SVE2 | SME),
+    Row("uaddwt", 0x45004C00, WIDE, (1, 2, 3), SVE2 | SME),
+    Row("ssubwb", 0x45005000, WIDE, (1, 2, 3), SVE2 | SME),
+    Row("ssubwt", 0x45005400, WIDE, (1, 2, 3), SVE2 | SME),
+    Row("usubwb", 0x45005800, WIDE, (1, 2, 3), SVE2 | SME),
+    Row("usubwt", 0x45005C00, WIDE, (1, 2, 3), SVE2 | SME),
 ]
 NAMES = [row.name for row in ROWS]
 
@@ -99,15 +106,39 @@ def shapes():
 SHAPES = shapes()
 
 
-def decoded(word):
-    """0 and the word's parts, or the number it is refused with: 7, UNKNOWN, or 8, UNDEFINED."""
+def row_of(word):
+    """The row that a word matches, or None."""
     for row in ROWS:
         if word & row.form.mask == row.value:
-            size, q = word >> 22 & 3, word >> 30 & 1 if row.form is LONG else 0
-            if (row.name, size, q) not in TEMPLATES:
-                return 8, None
-            return 0, Word(row, size, q, word & 31, word >> 5 & 31, word >> 10 & 7, word >> 16 & 31)
-    return 7, None
+            return row
+    return None
+
+
+def decoded(word):
+    """0 and the word's parts, or the number it is refused with on every core: 7, UNKNOWN, or 8, UNDEFINED."""
+    row = row_of(word)
+    if row is None:
+        return 7, None
+    size, q = word >> 22 & 3, word >> 30 & 1 if row.form is LONG else 0
+    if (row.name, size, q) not in TEMPLATES:
+        return 8, None
+    return 0, Word(row, size, q, word & 31, word >> 5 & 31, word >> 10 & 7, word >> 16 & 31)
+
+
+def have(facts, need):
+    """Whether the facts have what a row needs."""
+    return not need or bool(facts & need)
+
+
+def lacking(word, facts):
+    """What the word's row needs where the facts do not have it, as 'saddv needs SVE or SME', or nothing."""
+    row = row_of(word)
+    return "" if row is None or have(facts, row.need) else "%s needs %s" % (row.name, " or ".join(fact_names(row.need)))
+
+
+def fact_names(facts):
+    """The names of facts, in the order of their bits."""
+    return [name for bit, name in enumerate(FACTS) if facts >> bit & 1]
 
 
 def named(word):

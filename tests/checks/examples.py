@@ -5,12 +5,17 @@ import textwrap
 
 from .common import expect, make, place, read, run
 
-REFUSED = {"paper": "8 UNDEFINED", "refused": "7 UNKNOWN"}
+REFUSED = {
+    "paper": "8 UNDEFINED: it is one of the twenty-three instructions, with a size that is not allowed",
+    "refused": "7 UNKNOWN",
+    "board": "8 UNDEFINED: sadalp needs SVE2 or SME, and the session's facts have neither",
+    "sme": "8 UNDEFINED: addqv needs SVE2p1 or SME2p1, and the session's facts have neither",
+}
 
 
 def check():
     names = sorted(name[:-4] for name in os.listdir(place("examples")) if name.endswith(".txt"))
-    expect(set(names) >= {"paper", "strain-gauges", "columns", "accumulate", "differential", "refused"}, "examples are missing:", names)
+    expect(set(names) >= {"strain-gauges", "columns", "accumulate", "differential", *REFUSED}, "examples are missing:", names)
     for name in names:
         text, status = place("examples", name + ".txt"), 3 if name in REFUSED else 0
         run(text).expect(status, REFUSED.get(name, ""), out=read("examples", name + ".expected"))
@@ -21,7 +26,20 @@ def check():
     expect(made.out == read("crates/walk/stdin"), "the session that ships is not the one that walk's crate is run with")
     expect(read("examples/paper.expected") == read("crates/walk/stdout"), "paper.expected is not what walk's crate is held to")
     run().expect(3, "8 UNDEFINED", out=read("examples/paper.expected"))
+    in_version_2()
     readme()
+
+
+def in_version_2():
+    """The paper's session in version 2: with all five facts it is walked as in version 1, and with none its first word is refused."""
+    paper = read("examples/paper.session")
+    none, every = (b"LNW\2\0" + paper[5:8] + bytes([facts]) + paper[8:] for facts in (0, 31))
+    expect(read("examples/paper-2.session") == every, "paper-2.session is not the paper's in version 2")
+    with_facts = read("examples/paper.txt").replace(b"k 1\n", b"k 1\nfacts sve sve2 sve2p1 sme sme2p1\n")
+    make("-", stdin=with_facts).expect(0, out=every)
+    run(place("examples/paper-2.session")).expect(3, REFUSED["paper"], out=read("examples/paper.expected"))
+    run("-", stdin=none).expect(3, "word 0, 04002020, is refused with 8 UNDEFINED: saddv needs SVE or SME", out=b"0 8 04002020\n")
+    run("--lanes", place("examples/paper-2.session")).expect(3, out=run("--lanes").out)
 
 
 def readme():

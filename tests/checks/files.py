@@ -83,7 +83,7 @@ def usage(program):
     program("--nothing").expect(2, "no such option", out=b"")
     for word in ("--help", "-h"):
         said = program(word).expect(0, out=None)
-        expect(b"Exit status: 0" in said.out and not said.err, "--help does not name the statuses")
+        expect(b"Exit status: 0" in said.out and b" facts" in said.out and not said.err, "--help does not name the statuses and the facts")
 
 
 def notes():

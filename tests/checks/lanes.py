@@ -16,8 +16,8 @@ ELIDED = re.compile(r"  z(\d+)\.([bhsd]) +lanes (\d+) to (\d+): (.*)\Z")
 def check():
     dice = random.Random(5)
     for count in range(120):
-        session = any_session(dice, (1, 2, 4, 16)[count % 4])
-        session = session._replace(words=[any_word(dice) for _ in range(20)])
+        session = any_session(dice, (1, 2, 4, 16)[count % 4], facts=dice.choice((None, dice.randrange(32))))
+        session = session._replace(words=[any_word(dice, layout.facts_of(session)) for _ in range(20)])
         lines = walk(layout.packed(session))
         shown = drawing.drawn(session, lines.encode(), "own").split("\n")
         steps = split(shown[:-1])

@@ -1,10 +1,12 @@
 """The script run: sessions told by their mark, statuses, refusals by name, links, folders and outputs of every kind, and what it says while
 the crates of walk are proved (with a stand-in for the toolchain's rt, so that nothing is proved here)."""
 import os
+import random
 import shutil
 import struct
 import tempfile
 
+from . import facts, words
 from .common import WALK, Ran, expect, place, read, run
 
 PAPER = ("examples", "paper.session")
@@ -39,6 +41,10 @@ def told_by_mark(room):
     run("-", stdin=bytes(range(256))).expect(3, "NUL", out=b"")
 
 
+def head(version, k, count):
+    return b"LNW" + struct.pack("<HBH", version, k, count)
+
+
 def refusals():
     """Each refusal that a walk can show, with its name beside its number."""
     run("-", stdin=TEXT + b".inst 0x04c02020\n").expect(3, "word 1, 04c02020, is refused with 8 UNDEFINED", out=LINE + b"1 8 04c02020\n")
@@ -48,11 +54,11 @@ def refusals():
     expect(full.out.count(b"\n") == 255 and full.out.endswith(b"\n254 9 04002020\n"), "the walk at k = 16 ends otherwise")
     whole = run("-", stdin=b"k 8\nprogram\n" + b"saddv d0, p0, z1.b\n" * 256).expect(0)
     expect(whole.out.count(b"\n") == 256, "the walk at k = 8 has not 256 lines")
-    head = lambda version, k, count: b"LNW" + struct.pack("<HBH", version, k, count)  # noqa: E731
     for data, reason in (
-        (b"LNW", "the file has 3 bytes"),
+        (b"LNW", "the file has 3 bytes, and a session's head has 8, or 9 in version 2"),
         (b"LNW\n", "the file has 4 bytes"),
-        (head(2, 1, 0) + bytes(544), "the version is 2"),
+        (head(3, 1, 0) + bytes(545), "the version is 3, not 1 or 2"),
+        (head(2, 1, 0) + b"\x20" + bytes(544), "the facts byte has bit 5 set, and only bits 0 to 4 are facts"),
         (head(1, 0, 0), "the length k is 0"),
         (head(1, 3, 0) + bytes(544 * 3), "the length k is 3, not 1, 2, 4, 8 or 16"),
         (head(1, 17, 0), "the length k is 17"),
@@ -78,7 +84,7 @@ def names(room):
     run("--lanes=octal").expect(2, "signed, unsigned or hex", out=b"")
     Ran(["bash", "-c", 'bash "$1" - <&-', "bash", place("run")]).expect(1, "standard input could not be read")
     helped = run("--help").expect(0)
-    expect(b"Exit status: 0" in helped.out and b"three minutes" in helped.out and not helped.err, "--help")
+    expect(b"Exit status: 0" in helped.out and b"three minutes" in helped.out and b"'facts sve sve2'" in helped.out and not helped.err, "--help")
 
 
 def outputs():
@@ -163,3 +169,51 @@ def building(room):
     os.symlink(os.path.join(tools, "rt"), os.path.join(bare, "rt"))
     built("kept", PATH=bare).expect(3, "8 UNDEFINED", out=paper)
     built("kept", TMPDIR=os.path.join(room, "none")).expect(1, "temporary files", out=b"")
+
+    def walked(data):
+        path = os.path.join(room, "facts.session")
+        with open(path, "wb") as file:
+            file.write(data)
+        return built("kept", path, PATH=bare)
+
+    reasons(walked)
+    no_session(walked)
+
+
+SIZE = "it is one of the twenty-three instructions, with a size that is not allowed"
+
+
+def reasons(walked):
+    """Why a word is answered with 8: a fact that the core has not, for a word of each row, or the size, or both. python3 is not needed."""
+    dice = random.Random(7)
+    for row in words.TABLE:
+        name, need = row[0], facts.need(row[0])
+        fits, wrong = facts.any_of(dice, row), facts.any_of(dice, row, False) if name in ("saddv", "saddlv", "sadalp", "usubwt") else None
+        lacks = "%s needs %s, and the session's facts have neither" % (name, " or ".join(need))
+        others = 31 - facts.bits(need)  # all facts but those needed
+        for core, word, reason in (
+            (others, need and fits, lacks),
+            (others, wrong, "its size is not allowed; besides, " + lacks if need else SIZE),
+            (facts.bits(need[:1]), wrong, SIZE),
+            (facts.bits(need[1:]), wrong, SIZE),
+        ):
+            if word:
+                lines = b"0 0 uaddlv h2, v1.8b %s\n1 8 %08x\n" % (b"0" * 32, word)
+                said = walked(facts.session(core, [0x2E303822, word])).expect(3, out=lines).err
+                expect(said == "run: word 1, %08x, is refused with 8 UNDEFINED: %s; the walk ends there\n" % (word, reason), said)
+
+
+def no_session(walked):
+    """Why a file of version 2, or of none, is no session."""
+    for data, reason in (
+        (head(0, 1, 0) + bytes(544), "the version is 0, not 1 or 2"),
+        (head(0x102, 1, 0) + bytes(545), "the version is 258, not 1 or 2"),
+        (head(2, 1, 0), "the file has 8 bytes, and a session's head has 9 in version 2"),
+        (head(2, 1, 0) + bytes(544), "the file has 552 bytes, and with k = 1 and 0 words in version 2 it would have 553"),
+        (head(2, 5, 0) + bytes(1 + 544 * 5), "the length k is 5, not 1, 2, 4, 8 or 16"),
+        (head(2, 1, 257) + bytes(1 + 544 + 4 * 257), "the program has 257 words, and 256 are the most"),
+        (head(2, 1, 0) + b"\xbf" + bytes(544), "the facts byte has bit 5 and bit 7 set, and only bits 0 to 4 are facts"),
+        (head(2, 1, 0) + b"\xff" + bytes(544), "the facts byte has bit 5 and bit 6 and bit 7 set, and only bits 0 to 4 are facts"),
+    ):
+        said = walked(data).expect(3, out=b"14\n").err
+        expect(said == "run: 14 SESSION: %s\n" % reason, said)

@@ -36,6 +36,11 @@ SAME = [
     (PROGRAM + "      14: 20 20 05 04  \t<unknown>\n  18: d65f03c0\tret\n", PROGRAM + "addqv v0.16b, p0, z1.b\n.inst 0xd65f03c0\n"),
     (PROGRAM + "a.o:\tfile format elf64-littleaarch64\n\nDisassembly of section .text:\n\n0000000000000000 <kernel>:\n  0: 04002020\n",
      PROGRAM + "saddv d0, p0, z1.b\n"),
+    # facts: in any order and case, before or after the length and the registers; texts and listings name a word whatever the facts are
+    ("facts SME sve\nk 1\nprogram\n", "K 1\nFacts\tsve  sme # a core\nprogram\n"),
+    ("k 1\nz1.b 1\nfacts sme2p1 SVE2p1 sve2\nprogram\n", "k 1\nfacts sve2 sve2p1 sme2p1\nz1.b 1\nprogram\n"),
+    ("facts\n" + PROGRAM + "saddv d0, p0, z1.b\n 4: 04052020 addqv v0.16b, p0, z1.b\n 8: sadalp z3.h, p1/m, z1.b\n",
+     "facts // none\n" + PROGRAM + ".inst 0x04002020\n.inst 0x04052020\n.inst 0x4444a423\n"),
     # comments
     ("# one\nk 1 # two\n  #3 at the start\nz1.b 1 2 // 3\nprogram;\nsaddv d0, p0, z1.b ; four\n", "k 1\nz1.b 1 2\nprogram\nsaddv d0, p0, z1.b\n"),
     ("// \u00b2 and \u0663 in a comment\nk 1\nprogram\n", "k 1\nprogram\n"),
@@ -63,6 +68,21 @@ REFUSED = [
     ("k 1 2", 1, "a length is 1, 2, 4, 8 or 16"),
     ("k1", 1, "a space stands after k"),
     ("k 1\nk 1", 2, "given twice"),
+    ("facts sve3\nk 1", 1, "'sve3' is no fact: they are sve, sve2, sve2p1, sme, sme2p1, and 'facts' alone is a core with none of them"),
+    ("k 1\nfacts sve neon", 2, "'neon' is no fact"),
+    ("facts none", 1, "'facts' alone is a core with none"),
+    ("facts sve, sve2", 1, "names stand apart by spaces, without commas"),
+    ("facts sve #2", 1, "'#2' is no fact"),
+    ("facts " + "1" * 5000, 1, "(cut) is no fact"),
+    ("k 1\nfacts sve sme SVE", 2, "the fact sve is given twice"),
+    ("facts sve\nk 1\nfacts sve2", 3, "the facts are given twice"),
+    ("facts\nfacts\nk 1", 2, "the facts are given twice"),
+    ("facts: sve", 1, "(facts are given as 'facts sve sve2')"),
+    ("fact sve", 1, "(facts are given as 'facts sve sve2')"),
+    ("facts sve", 1, "no line gives the length"),
+    ("facts sve\nprogram", 2, "the length stands first"),
+    (PROGRAM + "facts sve", 3, "'facts' stands after 'program', and only words do: the length, the facts and the registers stand before it"),
+    ("facts\n" + PROGRAM + "0: 04002020 saddv d1, p0, z1.b", 4, "reads 'saddv d0, p0, z1.b'"),
     ("program", 1, "the length stands first"),
     ("z1.b 1", 1, "the length stands first"),
     ("k 1\nprogram x", 2, "stands alone"),
@@ -149,6 +169,19 @@ BYTES_REFUSED = [
 ]
 
 
+# the line of facts in a text, and the head that it makes: version 1 without the line, version 2 and a byte with it
+HEADS = [
+    ("", b"LNW\1\0\1\1\0"),
+    ("facts\n", b"LNW\2\0\1\1\0\0"),
+    ("facts sve\n", b"LNW\2\0\1\1\0\1"),
+    ("facts sve2\n", b"LNW\2\0\1\1\0\2"),
+    ("facts sve2p1\n", b"LNW\2\0\1\1\0\4"),
+    ("facts sme\n", b"LNW\2\0\1\1\0\10"),
+    ("facts sme2p1\n", b"LNW\2\0\1\1\0\20"),
+    ("facts sve sve2 sve2p1 sme sme2p1\n", b"LNW\2\0\1\1\0\37"),
+]
+
+
 def meaning(text):
     return layout.packed(readable.session_of(text if isinstance(text, bytes) else text.encode()))
 
@@ -159,6 +192,9 @@ def check():
             expect(meaning(one) == meaning(other), one, "does not mean", other)
         except saying.Bad as reason:
             expect(False, one, "is refused:", str(reason))
+    for line, head in HEADS:
+        made = meaning(line + PROGRAM + "saddv d0, p0, z1.b\n")
+        expect(made == head + bytes(544) + b"\x20\x20\0\4", line, "makes", made[:9])
     for text, line, reason in REFUSED + BYTES_REFUSED:
         refused(text, line, reason)
     expect(readable.plain(b"name z0.h, #14 # rest") == "name z0.h, #14", "a comment's sign cuts the operand #14")
@@ -176,7 +212,7 @@ def refused(text, line, reason):
     expect(False, text[:60], "is not refused")
 
 
-PIECES = ["k", "k 1", "k 16", "z1", "z1.h", "z31.d", "p0", "p0.h", "p15.b", "all", "none", "program", "saddv", "d0", "p0,", "z1.b", ",", "/m", ".inst", ".word",
+PIECES = ["k", "k 1", "k 16", "facts", "facts sve sme2p1", "sve2", "z1", "z1.h", "z31.d", "p0", "p0.h", "p15.b", "all", "none", "program", "saddv", "d0", "p0,", "z1.b", ",", "/m", ".inst", ".word",
           "0x04002020", "04c02020", "0:", "20 20 00 04", "saddv d0, p0, z1.b", "sadalp z3.h, p1/m, z1.b", "uaddlv h2, v1.8b", "ssublb z0.h, z1.b, z2.b", "saddwb", "-1", "0x", "-", "#", "#1", "//", ";",
           "\n", "\n", "\n", " ", "\t", "\r", "\0", "\x1b", "\u00b2", "\u0663", "\ufeff", "9" * 50, "<a>:", "...", "(", "\\", "%s", "{d}", "z1.", "p.", "."]
 
