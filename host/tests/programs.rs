@@ -41,27 +41,35 @@ fn families_prints_the_references_lines() {
     assert_eq!(lines, include_str!("../../crates/families/stdout"));
 }
 
+/// The runs of `trials`: the length, the facts as a byte and the journal's bytes.
+fn runs() -> Vec<(usize, u8, usize)> {
+    let mut runs = Vec::new();
+    for k in LENGTHS {
+        let entry = 8 + 1 + 16 * k;
+        runs.extend([8, entry - 1, entry, 65_536].map(|room| (k, Facts::ALL.byte(), room)));
+    }
+    runs.extend([0, 1, 3, 8, 7].map(|byte| (4, byte, 65_536)));
+    runs
+}
+
 #[test]
 fn trials_prints_the_references_counts() {
     let program: Vec<u8> = WORDS.iter().cycle().take(256).flat_map(|w| w.to_le_bytes()).collect();
     let mut lines = String::new();
-    for k in LENGTHS {
-        let entry = 8 + 1 + 16 * k;
-        for room in [8, entry - 1, entry, 65_536] {
-            let (mut z, p) = files(k);
-            let mut journal = vec![0; room];
-            fresh(k, &mut journal).expect("a legal length and room");
-            let (mut forward, mut backward) = (0, 0);
-            for direction in filled(1200, 9, 3) {
-                if direction == 0 {
-                    backward += u32::from(back(k, &mut z, &p, &mut journal).is_ok());
-                } else {
-                    let answer = step(k, Facts::ALL, &mut z, &p, &program, &mut journal);
-                    forward += u32::from(answer.is_ok());
-                }
+    for (k, byte, room) in runs() {
+        let facts = Facts::from_byte(byte);
+        let (mut z, p) = files(k);
+        let mut journal = vec![0; room];
+        fresh(k, &mut journal).expect("a legal length and room");
+        let (mut forward, mut backward) = (0, 0);
+        for direction in filled(1200, 9, 3) {
+            if direction == 0 {
+                backward += u32::from(back(k, &mut z, &p, &mut journal).is_ok());
+            } else {
+                forward += u32::from(step(k, facts, &mut z, &p, &program, &mut journal).is_ok());
             }
-            lines += &format!("{} {} {} {} same\n", k, room, forward, backward);
         }
+        lines += &format!("{} {} {} {} {} same\n", k, byte, room, forward, backward);
     }
     assert_eq!(lines, include_str!("../../crates/trials/stdout"));
 }
