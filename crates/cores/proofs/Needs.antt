@@ -1,21 +1,67 @@
 -- The needs: of each row, computed against the request's sentence; all facts have every need, and more facts have what fewer had.
 -- Assumes nothing.
+use Prim.Native.Nat.{ℕ, zero, suc, _≤_, _<_}
+use native.Mathlib.Omega.{arith}
 use mathlib.Core.Path.{_≡_, refl}
 use mathlib.Core.Bool.{Bool, true, false}
 use mathlib.Core.List.{_∷_, map}
+use lib.Dec.{ltb}
 use lib.ListN.{replicate}
+use borrow.Author.Tests.{le-ltb}
 use Rattle.facts.specs.Facts.{allFacts, noFacts, Implies, Among}
 use Rattle.facts.specs.declared.Facts.{Facts}
-use Rattle.rows.specs.Table.{table}
+use Rattle.rows.specs.Table.{table, rows, rowAt, formFor}
+use Rattle.rows.proofs.Every.{every, at-each}
 use Rattle.rows.specs.declared.Row.{Row}
 use Rattle.cores.specs.declared.Need.{Need}
 use Rattle.cores.specs.declared.Need.the-variants.{Nothing, SveOrSme, Sve2OrSme, Sve2p1OrSme2p1}
-use Rattle.cores.specs.Need.{either, has, needFor}
+use Rattle.cores.specs.Need.{either, has, needFor, needOf}
 
 -- saddv and uaddv need SVE or SME, addqv SVE2p1 or SME2p1, saddlv and uaddlv nothing, the other eighteen SVE2 or SME
-pub row-needs : map (λ (r : Row). needFor (r .3)) table
+pub row-needs : map (λ (r : Row). needFor (formFor (r .3) (r .4) (r .5) .family)) table
     ≡ SveOrSme ∷ SveOrSme ∷ Sve2p1OrSme2p1 ∷ Nothing ∷ Nothing ∷ replicate 18 Sve2OrSme
 row-needs = refl
+
+-- by the row's place: the first two, the next, the two after it, and all that follow
+pub need-first : (i : ℕ) → i < 2 → needOf i ≡ SveOrSme
+unfolding needOf rowAt
+need-first zero h = refl
+need-first (suc zero) h = refl
+need-first (suc (suc i)) h = absurd (omega arith)
+
+pub need-next : (i : ℕ) → i ≡ 2 → needOf i ≡ Sve2p1OrSme2p1
+unfolding needOf rowAt
+need-next i e = rw e refl
+
+pub need-across : (i : ℕ) → 2 < i → i < 5 → needOf i ≡ Nothing
+unfolding needOf rowAt
+need-across zero low high = absurd (omega arith)
+need-across (suc zero) low high = absurd (omega arith)
+need-across (suc (suc zero)) low high = absurd (omega arith)
+need-across (suc (suc (suc zero))) low high = refl
+need-across (suc (suc (suc (suc zero)))) low high = refl
+need-across (suc (suc (suc (suc (suc i))))) low high = absurd (omega arith)
+
+-- whether a need is that of SVE2 or SME
+isLater : Need → Bool
+isLater Nothing = false
+isLater SveOrSme = false
+isLater Sve2OrSme = true
+isLater Sve2p1OrSme2p1 = false
+
+later-needs : every rows (λ i. either (ltb i 5) (isLater (needOf i))) ≡ true
+unfolding isLater needOf rowAt
+later-needs = refl
+
+pub need-later : (i : ℕ) → 5 ≤ i → i < rows → needOf i ≡ Sve2OrSme
+unfolding isLater
+need-later i past h = go (needOf i) (rw (le-ltb i 5 past) at (at-each rows (λ j. either (ltb j 5) (isLater (needOf j))) later-needs i h))
+  where
+    go : (need : Need) → isLater need ≡ true → need ≡ Sve2OrSme
+    go Nothing e = cc
+    go SveOrSme e = cc
+    go Sve2OrSme e = refl
+    go Sve2p1OrSme2p1 e = cc
 
 -- a core with every fact has every need
 pub has-all : (need : Need) → has allFacts need ≡ true

@@ -2,9 +2,10 @@
 use Prim.Native.Nat.{ℕ}
 use mathlib.Core.Bool.{Bool, true, false}
 use Rattle.facts.specs.declared.Facts.{Facts}
-use Rattle.rows.specs.Table.{rowAt}
-use Rattle.rows.specs.declared.Operation.{Operation}
-use Rattle.rows.specs.declared.Operation.the-variants.{Reduce, Segments, Across, Pairs, AddLong, SubLong, AddWide, SubWide}
+use Rattle.rows.specs.Table.{familyOf}
+use Rattle.rows.specs.declared.Family.{Family}
+use Rattle.rows.specs.declared.Family.the-variants.{Low, Wide}
+use Rattle.rows.specs.declared.LowFamily.the-variants.{Reduction, Segment, Long}
 use Rattle.cores.specs.declared.Need.{Need}
 use Rattle.cores.specs.declared.Need.the-variants.{Nothing, SveOrSme, Sve2OrSme, Sve2p1OrSme2p1}
 
@@ -20,17 +21,13 @@ has facts SveOrSme = either (facts .sve) (facts .sme)
 has facts Sve2OrSme = either (facts .sve2) (facts .sme)
 has facts Sve2p1OrSme2p1 = either (facts .sve2p1) (facts .sme2p1)
 
--- what an operation needs
-abbrev pub needFor : Operation → Need
-needFor Reduce = SveOrSme
-needFor Segments = Sve2p1OrSme2p1
-needFor Across = Nothing
-needFor Pairs = Sve2OrSme
-needFor AddLong = Sve2OrSme
-needFor SubLong = Sve2OrSme
-needFor AddWide = Sve2OrSme
-needFor SubWide = Sve2OrSme
+-- what a family needs
+abbrev pub needFor : Family → Need
+needFor (Low Reduction) = SveOrSme
+needFor (Low Segment) = Sve2p1OrSme2p1
+needFor (Low Long) = Nothing
+needFor (Wide wide) = Sve2OrSme
 
 -- what the row at a place needs
 unfoldable pub needOf : ℕ → Need
-needOf i = needFor (rowAt i .3)
+needOf i = needFor (familyOf i)

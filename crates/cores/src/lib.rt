@@ -1,11 +1,23 @@
 // What a word decodes to on a core: a row's need comes above its match and its sizes.
 use facts::Facts;
-use rows::Operation;
 use words::Decoded;
 use words::Fields;
 ghost use mathlib.Core.Path.{_≡_};
-ghost use Rattle.cores.specs.Need.{has, needFor, needOf};
+ghost use Prim.Native.Nat.{_<_};
+ghost use Rattle.rows.specs.Table.{rows};
+ghost use Rattle.cores.specs.Need.{has, needOf};
 ghost use Rattle.cores.specs.Core.{granted, decodedOn};
+
+// The places of the rows that need something else than those past them.
+const SADDV: usize = 0;
+
+const UADDV: usize = 1;
+
+const ADDQV: usize = 2;
+
+const SADDLV: usize = 3;
+
+const UADDLV: usize = 4;
 
 // What a row needs of a core.
 pub enum Need {
@@ -27,33 +39,22 @@ fn has(facts: Facts, need: Need) -> bool
     }
 }
 
-// What an operation needs.
-fn need_for(operation: Operation) -> Need
-    ensures { λ r. ⌜ r ≡ needFor operation ⌝ }
-{
-    match operation {
-        Operation::Reduce => Need::SveOrSme,
-        Operation::Segments => Need::Sve2p1OrSme2p1,
-        Operation::Across => Need::Nothing,
-        Operation::Pairs => Need::Sve2OrSme,
-        Operation::AddLong => Need::Sve2OrSme,
-        Operation::SubLong => Need::Sve2OrSme,
-        Operation::AddWide => Need::Sve2OrSme,
-        Operation::SubWide => Need::Sve2OrSme,
-    }
-}
-
 // What the row at a place needs.
-fn need_of(i: usize) -> Need
-    ensures { λ r. ⌜ r ≡ needOf i ⌝ }
+fn need_of(row: usize) -> Need
+    requires { ⌜ row < rows ⌝ }
+    ensures { λ r. ⌜ r ≡ needOf row ⌝ }
 {
-    let row = rows::row_at(i);
-    let operation = row.3;
-    need_for(operation)
+    match row {
+        SADDV | UADDV => Need::SveOrSme,
+        ADDQV => Need::Sve2p1OrSme2p1,
+        SADDLV | UADDLV => Need::Nothing,
+        _ => Need::Sve2OrSme,
+    }
 }
 
 // A word with these fields, where the core has what its row needs.
 fn grant(facts: Facts, fields: Fields) -> Decoded
+    requires { ⌜ fields .row < rows ⌝ }
     ensures { λ r. ⌜ r ≡ granted facts fields ⌝ }
 {
     if has(facts, need_of(fields.row)) {

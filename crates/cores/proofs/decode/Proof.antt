@@ -4,6 +4,7 @@ use borrow.Author.Needs.{needs}
 use mathlib.Core.Path.{_≡_, sym, _∙_, ap}
 use Rattle.words.specs.declared.Decoded.{Decoded}
 use Rattle.words.specs.declared.Decoded.the-variants.{Word}
+use Rattle.words.proofs.Encoding.{decoded-in-range}
 use Rattle.cores.specs.Core.{onCore, decodedOn}
 use Rattle.cores.proofs.decode.Statement.{statement}
 use Rattle.cores.proofs.decode.Tie as tie
@@ -12,6 +13,10 @@ use Rattle.cores.proofs.decode.Tie as tie
 taken : (c : tie.After-decode) (arm : Decoded) → c .decode .result ≡ arm → onCore (c .before .args .facts) arm ≡ decodedOn (c .before .args .facts) (c .before .args .word)
 unfolding decodedOn
 taken c arm is = ap (onCore (c .before .args .facts)) (sym is ∙ c .decode .ensures)
+
+-- an accepted word is of a row
+grant-requires : tie.Need-grant-requires
+grant-requires c κs = let at = c .before in decoded-in-range _ _ (sym (at .before .before .decode .ensures) ∙ at .fields .given .1) .row
 
 returns : tie.Need-returns
 returns c = taken (c .before .before) _ (c .enum-told .given .1)
@@ -25,4 +30,4 @@ returns-3 c = let at = c .before .before in c .grant .ensures ∙ taken (at .bef
 pub decode-spec : {M : Type 1} → statement M
 decode-spec =
     tie.close
-    (tie.spec (λ c κs. search needs) (λ c. search needs) (λ c. search needs) (λ c. search needs) (λ c κs. search needs) returns returns-2 returns-3)
+    (tie.spec (λ c κs. search needs) (λ c. search needs) (λ c. search needs) (λ c. search needs) grant-requires returns returns-2 returns-3)
