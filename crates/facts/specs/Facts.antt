@@ -54,11 +54,14 @@ byteOf f =
     + weightOf (f .sme2p1) sme2p1Bit
 
 -- all five facts, and none of them
+abbrev pub uniform : Bool → Facts
+uniform holds = record { sve = holds; sve2 = holds; sve2p1 = holds; sme = holds; sme2p1 = holds }
+
 abbrev pub allFacts : Facts
-allFacts = record { sve = true; sve2 = true; sve2p1 = true; sme = true; sme2p1 = true }
+allFacts = uniform true
 
 abbrev pub noFacts : Facts
-noFacts = record { sve = false; sve2 = false; sve2p1 = false; sme = false; sme2p1 = false }
+noFacts = uniform false
 
 -- the byte of all five
 abbrev pub allByte : ℕ

@@ -1,7 +1,7 @@
 // What a core has, as five facts, and the byte that stands for them.
 ghost use mathlib.Core.Path.{_≡_};
 ghost use Prim.Native.Nat.{_<_};
-ghost use Rattle.facts.specs.Facts.{allFacts, noFacts, hasBit, factsOf, byteOf, Weighed};
+ghost use Rattle.facts.specs.Facts.{uniform, allFacts, noFacts, hasBit, factsOf, byteOf, Weighed};
 
 pub mod bit;
 
@@ -17,30 +17,31 @@ pub struct Facts {
 // The byte of all five.
 pub const ALL: u8 = 31;
 
+// A core that has all five facts, or none.
+fn uniform(holds: bool) -> Facts
+    ensures { λ r. ⌜ r ≡ uniform holds ⌝ }
+{
+    Facts {
+        sve: holds,
+        sve2: holds,
+        sve2p1: holds,
+        sme: holds,
+        sme2p1: holds,
+    }
+}
+
 // A core that has all five.
 pub fn all() -> Facts
     ensures { λ r. ⌜ r ≡ allFacts ⌝ }
 {
-    Facts {
-        sve: true,
-        sve2: true,
-        sve2p1: true,
-        sme: true,
-        sme2p1: true,
-    }
+    uniform(true)
 }
 
 // A core that has none.
 pub fn none() -> Facts
     ensures { λ r. ⌜ r ≡ noFacts ⌝ }
 {
-    Facts {
-        sve: false,
-        sve2: false,
-        sve2p1: false,
-        sme: false,
-        sme2p1: false,
-    }
+    uniform(false)
 }
 
 // Whether a bit of a byte is set.

@@ -191,7 +191,8 @@ pub extern "C" fn ln_write_line(
     position: usize,
     number: u64,
 ) -> LnAnswer
-    ensures { λ r. ⌜ LineWritten k (factsOf facts) (state (now (z .entry)) (now (p .entry))) (now (program .entry)) position number (now (out .entry)) (now (out .exit)) (answerIn r) ⌝ }
+    ensures { λ r. ⌜ LineWritten k (factsOf facts) (state (now (z .entry)) (now (p .entry))) (now (program .entry)) position number
+        (now (out .entry)) (now (out .exit)) (answerIn r) ⌝ }
 {
     let core = facts::facts_of(facts);
     let answer = lines::write_line(out, k, core, z, p, program, position, number);

@@ -1,6 +1,7 @@
-// Names words and reads their texts back, and tries texts that no word reads as, on a core with all facts; then the same on others. Each line of a word has the word, the number that
-// naming answers, and where that is 0 the text and the word that the text assembles to. Each line of a text has the number that
-// assembling answers and the text in brackets.
+// Names words and reads their texts back, and tries texts that no word reads as, on a core with all facts; then some on others. Each
+// line of a word has the word, the number that naming answers, and where that is 0 the text and the word that the text assembles to;
+// after a row's words one has the numbers on every core. Each line of a text has the number that assembling answers and the text in
+// brackets.
 use facts::Facts;
 use libc::STDOUT_FILENO;
 use machine::Length;
