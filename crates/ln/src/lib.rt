@@ -119,10 +119,10 @@ pub extern "C" fn ln_text(word: u32, facts: u8, out: &mut [u8]) -> LnAnswer
 pub extern "C" fn ln_assemble(text: &[u8], facts: u8) -> LnAnswer
     ensures { λ r. ⌜ Assembled (now (text .entry)) (factsOf facts) (answerIn r) ⌝ }
 {
-    let answer = assembles::assemble(text, facts::facts_of(facts));
+    let word = assembles::assemble(text, facts::facts_of(facts));
     LnAnswer {
-        number: answer.number as u64,
-        value: answer.value,
+        number: word.number as u64,
+        value: word.value,
     }
 }
 

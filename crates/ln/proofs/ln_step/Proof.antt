@@ -1,10 +1,13 @@
--- `ln_step` meets its contract: it hands on what the step tells, of the core whose facts the byte tells.
+-- `ln_step` meets its contract: it hands on what the step tells, whole or in part, as the contract asks, of the core whose facts the byte tells.
 -- Assumes nothing.
-use mathlib.Core.Path.{subst}
+use mathlib.Core.Path.{_≡_}
+use mathlib.Core.List.{List}
+use Prim.Native.Nat.{ℕ}
 use denote.Ref.{now}
 use borrow.Author.Needs.{needs}
 use Rattle.facts.specs.declared.Facts.{Facts}
-use Rattle.registers.specs.State.{state}
+use Rattle.facts.specs.Facts.{factsOf}
+use Rattle.registers.specs.State.{State, state}
 use Rattle.journal.specs.Calls.{Stepped}
 use Rattle.ln.proofs.ln_step.Statement.{statement}
 use Rattle.ln.proofs.ln_step.Tie as tie
@@ -17,16 +20,20 @@ known c = c .before .before .before
 abbrev stepped : tie.After-slice-known4 → tie.After-step
 stepped c = c .before .before .before .before
 
+-- a step on equal facts
+same-core : (k : ℕ) (f g : Facts) (s : State) (program journal : List ℕ) (r : ℕ) (after : State) (later : List ℕ) → f ≡ g
+    → Stepped k f s program journal r after later
+    → Stepped k g s program journal r after later
+same-core k f g s program journal r after later e made = rw (← e) made
+
 returns : tie.Need-returns
 returns c =
     let t = stepped c in
     let a = known t .before .before .before .before .before .args in
-    subst
-    (λ (f : Facts). Stepped (a .k) f (state (now (a .z)) (now (a .p))) (now (a .program)) (now (a .journal)) (t .step .result)
+    let made : Stepped (a .k) (factsOf (a .facts)) (state (now (a .z)) (now (a .p))) (now (a .program)) (now (a .journal)) (t .step .result)
     (state (t .step .last .1 .1 .0) (now (a .p)))
-    (t .step .last .1 .1 .1 .1 .1 .0))
-    (known t .facts-of .ensures)
-    (t .step .ensures)
+    (t .step .last .1 .1 .1 .1 .1 .0) = same-core _ _ _ _ _ _ _ _ _ (known t .facts-of .ensures) (t .step .ensures) in
+    search needs
 
 pub ln-step-spec : {M : Type 1} → statement M
 ln-step-spec = tie.close (tie.spec (λ c κs. search needs) (λ c κs. search needs) (λ c. search needs) (λ c. search needs) (λ c. search needs) returns)
