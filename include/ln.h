@@ -39,9 +39,9 @@
  * With LN_ALL_FACTS no word is refused for want of a fact. A call that takes facts looks at the bits of
  * enum ln_fact alone: the three higher bits of the byte do not matter there and are not refused.
  *
- * The facts should stay the same from one step of a journal to the next. A step back needs no facts and
- * is never refused for want of one. The promise that steps and steps back are undone word for word speaks
- * of unchanged facts.
+ * The facts should stay the same from one step of a journal to the next: that steps forward and back
+ * leave what a plain walk leaves is promised for unchanged facts. A step back needs no facts and is never
+ * refused for want of one.
  *
  * A journal is what steps back need. The caller lends it and ln_fresh writes it first:
  *
