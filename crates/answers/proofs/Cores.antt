@@ -19,7 +19,7 @@ use Rattle.words.specs.Decode.{decoded, numberOf, wordTests}
 use Rattle.words.specs.declared.Decoded.{Decoded}
 use Rattle.words.specs.declared.Decoded.the-variants.{Unknown, Undefined, Word}
 use Rattle.cores.specs.Core.{decodedOn, Lacking}
-use Rattle.cores.proofs.Answers.{Verdict, unknown, undefined, accepted, lacking, verdict, core-decodes, undefined-on, on-all, on-more, done-on}
+use Rattle.cores.proofs.Answers.{Verdict, unknown, undefined, accepted, lacking, verdict, core-decodes, undefined-on, on-all, on-more, done-word}
 use Rattle.names.specs.Named.{leastOut, textOfWord, nameRefused}
 use Rattle.lines.specs.Line.{placedTests, lineRefused}
 use Rattle.assembles.specs.Assembled.{ReadsAs, Assembled}
@@ -94,7 +94,7 @@ module _ (k : ℕ) (s : State) (program journal : List ℕ) where
 pub name-on-more : (fewer more : Facts) → Among fewer more → (n word : ℕ) → nameRefused n word fewer ≡ DONE → nameRefused n word more ≡ DONE
 name-on-more fewer more all n word e =
     let none = first-none (outTest (ltb n leastOut) ∷ wordTests (decodedOn fewer word)) tt e in
-    let (f, is) = done-on fewer word (told (decodedOn fewer word) (none .1)) in
+    let (f, is) = done-word (decodedOn fewer word) (told (decodedOn fewer word) (none .1)) in
     ap (λ (d : Decoded). refused (outTest (ltb n leastOut) ∷ wordTests d)) (on-more fewer more all word f is ∙ sym is) ∙ e
   where
     told : (d : Decoded) → None (wordTests d) → numberOf d ≡ DONE
@@ -105,7 +105,7 @@ name-on-more fewer more all n word e =
 -- a text that is assembled with fewer facts is assembled to the same word with more
 pub reads-on-more : (fewer more : Facts) → Among fewer more → (word : ℕ) (text : List ℕ) → ReadsAs fewer word text → ReadsAs more word text
 reads-on-more fewer more all word text r =
-    let (f, is) = done-on fewer word (r .accepted) in
+    let (f, is) = done-word (decodedOn fewer word) (r .accepted) in
     record { below = r .below; accepted = ap numberOf (on-more fewer more all word f is); reads = r .reads }
 
 -- the text of a word that lacks what it needs is TEXT
@@ -115,7 +115,7 @@ forbidden-text facts word text r reads lacks assembled = text-exactly facts text
   where
     none : (w : ℕ) → ReadsAs facts w text → ⊥
     none w h =
-        let (g, is) = done-on facts w (h .accepted) in
+        let (g, is) = done-word (decodedOn facts w) (h .accepted) in
         let same : w ≡ word = reads-once allFacts text w word (record { below = h .below; accepted = ap numberOf (on-all w ∙ core-decodes facts w g is); reads = h .reads }) reads in
         let refused-there = undefined-on facts word .1 (inr lacks) in
         omega (arith, h .accepted, ap (λ (v : ℕ). numberOf (decodedOn facts v)) same)

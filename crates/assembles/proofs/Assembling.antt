@@ -14,29 +14,19 @@ use Rattle.rows.specs.Digits.{wordDigits}
 use Rattle.words.specs.Decode.{decoded, numberOf}
 use Rattle.words.specs.Encode.{encoded, InRange}
 use Rattle.words.specs.declared.Fields.{Fields}
-use Rattle.words.specs.declared.Decoded.{Decoded}
-use Rattle.words.specs.declared.Decoded.the-variants.{Unknown, Undefined, Word}
+use Rattle.words.specs.declared.Decoded.the-variants.{Word}
 use Rattle.rows.specs.Table.{familyOf}
 use Rattle.words.proofs.Decoding.{governing-below, second-below, q-below}
 use Rattle.words.proofs.Encoding.{decoded-in-range, encoded-decoded}
 use Rattle.facts.specs.declared.Facts.{Facts}
 use Rattle.cores.specs.Core.{decodedOn}
-use Rattle.cores.proofs.Answers.{core-decodes, done-on}
+use Rattle.cores.proofs.Answers.{core-decodes, done-word}
 use Rattle.names.specs.Text.{textOf}
 use Rattle.names.specs.Named.{leastOut, textOfDecoded, textOfWord, Named}
 use Rattle.names.proofs.Naming.{done-accepted, accepted-named}
 use Rattle.assembles.specs.Reading.{fieldsFrom, limited, wordOf}
 use Rattle.assembles.specs.Assembled.{ReadsAs, Assembled}
 use Rattle.assembles.proofs.Back.{read-back}
-
--- the fields of an accepted word
-pub accepted-word : (word : ℕ) → numberOf (decoded word) ≡ DONE → (f : Fields) × (decoded word ≡ Word f)
-accepted-word word e = go (decoded word) refl e
-  where
-    go : (d : Decoded) → decoded word ≡ d → numberOf d ≡ DONE → (f : Fields) × (decoded word ≡ Word f)
-    go Unknown is e = absurd (omega arith)
-    go Undefined is e = absurd (omega arith)
-    go (Word f) is e = (f, is)
 
 -- fields in range have no more digits than their places
 in-place : (f : Fields) → InRange f → limited f ≡ f
@@ -54,7 +44,7 @@ in-place f r =
 
 -- a word that a core accepts decodes to its fields
 pub accepted-on : (facts : Facts) (word : ℕ) → numberOf (decodedOn facts word) ≡ DONE → (f : Fields) × (decoded word ≡ Word f)
-accepted-on facts word e = let (f, is) = done-on facts word e in (f, core-decodes facts word f is)
+accepted-on facts word e = let (f, is) = done-word (decodedOn facts word) e in (f, core-decodes facts word f is)
 
 -- the word that is read in a text of an accepted word is that word
 pub read-word : (facts : Facts) (text : List ℕ) (word : ℕ) → ReadsAs facts word text → wordOf (fieldsFrom text) ≡ word

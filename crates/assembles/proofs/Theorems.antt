@@ -16,14 +16,14 @@ use Rattle.words.specs.declared.Fields.{Fields}
 use Rattle.words.proofs.Encoding.{decoded-in-range, encoded-decoded, encoded-below, decoded-encoded}
 use Rattle.facts.specs.declared.Facts.{Facts}
 use Rattle.cores.specs.Need.{has, needOf}
-use Rattle.cores.proofs.Answers.{accepted-exactly}
+use Rattle.cores.proofs.Answers.{done-word, accepted-exactly}
 use Rattle.names.specs.Text.{textOf}
 use Rattle.names.specs.Named.{leastOut, textOfDecoded, textOfWord, Named}
 use Rattle.names.proofs.Naming.{done-accepted, accepted-named}
 use Rattle.assembles.specs.Reading.{fieldsFrom}
 use Rattle.assembles.specs.Assembled.{ReadsAs, Assembled}
 use Rattle.assembles.proofs.Back.{read-back}
-use Rattle.assembles.proofs.Assembling.{accepted-word, accepted-on}
+use Rattle.assembles.proofs.Assembling.{accepted-on}
 
 -- fields with one text are the same
 pub fields-injective : (f g : Fields) → InRange f → InRange g → textOf f ≡ textOf g → f ≡ g
@@ -33,8 +33,8 @@ fields-injective f g r s e = sym (read-back f r) ∙ ap fieldsFrom e ∙ read-ba
 pub naming-injective : (v w : ℕ) → v < 2 ^ wordDigits → w < 2 ^ wordDigits → numberOf (decoded v) ≡ DONE → numberOf (decoded w) ≡ DONE
     → textOfWord v ≡ textOfWord w → v ≡ w
 naming-injective v w hv hw av aw e =
-    let (f, isv) = accepted-word v av in
-    let (g, isw) = accepted-word w aw in
+    let (f, isv) = done-word (decoded v) av in
+    let (g, isw) = done-word (decoded w) aw in
     let same =
     fields-injective f g (decoded-in-range v f isv) (decoded-in-range w g isw)
     (sym (ap textOfDecoded isv) ∙ e ∙ ap textOfDecoded isw) in

@@ -64,14 +64,11 @@ accepted-exactly facts word f = (by (verdict facts word), λ g. on-core facts wo
 pub core-decodes : (facts : Facts) (word : ℕ) (f : Fields) → decodedOn facts word ≡ Word f → decoded word ≡ Word f
 core-decodes facts word f h = accepted-exactly facts word f .0 h .decodes
 
--- the fields of a word that is answered DONE
-pub done-on : (facts : Facts) (word : ℕ) → numberOf (decodedOn facts word) ≡ DONE → (f : Fields) × (decodedOn facts word ≡ Word f)
-done-on facts word e = go (decodedOn facts word) refl e
-  where
-    go : (d : Decoded) → decodedOn facts word ≡ d → numberOf d ≡ DONE → (f : Fields) × (decodedOn facts word ≡ Word f)
-    go Unknown is e = absurd (omega arith)
-    go Undefined is e = absurd (omega arith)
-    go (Word f) is e = (f, is)
+-- the fields of what is answered DONE
+pub done-word : (d : Decoded) → numberOf d ≡ DONE → (f : Fields) × (d ≡ Word f)
+done-word Unknown e = absurd (omega arith)
+done-word Undefined e = absurd (omega arith)
+done-word (Word f) e = (f, refl)
 
 -- UNKNOWN comes exactly where it comes on any core
 pub unknown-on : (facts : Facts) (word : ℕ) → numberOf (decodedOn facts word) ≡ UNKNOWN ↔ numberOf (decoded word) ≡ UNKNOWN

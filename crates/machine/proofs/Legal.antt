@@ -33,7 +33,7 @@ among-false n [] h = refl
 among-false n (m ∷ []) h = rw (ne-eqb n m h)
 among-false n (m ∷ l ∷ ms) h = rw (ne-eqb n m (λ e. h (inl e))) (among-false n (l ∷ ms) (λ g. h (inr g)))
 
-among-given : (n : ℕ) (ms : List ℕ) → isAmong n ms ≡ true → Among n ms
+pub among-given : (n : ℕ) (ms : List ℕ) → isAmong n ms ≡ true → Among n ms
 among-given n [] e = false≢true e
 among-given n (m ∷ []) e = first (eqb n m) refl e
   where

@@ -3,7 +3,7 @@
 use mathlib.Core.Path.{_≡_, refl, sym, _∙_, ap}
 use mathlib.Core.Bool.{Bool, true, false, cond}
 use mathlib.Core.Logic.{_⊎_, inl, inr, ⊎-elim}
-use mathlib.Core.List.{List, [], _∷_, _++_}
+use mathlib.Core.List.{List, _++_}
 use Prim.Native.Nat.{ℕ, _+_, _*_, _%_, _≤_}
 use native.Mathlib.Nat.{mod-eq-of-lt}
 use native.Mathlib.Omega.{arith}
@@ -18,10 +18,10 @@ use Rattle.facts.specs.Facts.{factsOf, byteOf, allFacts, allByte}
 use Rattle.facts.proofs.Bytes.{all-of-byte, byte-of-facts}
 use Rattle.machine.specs.Size.{mostWords, isAmong, isLegal, wordBytes}
 use Rattle.machine.specs.Refusal.{DONE, SESSION, inOrder, refused, filesTests, programTests}
-use Rattle.machine.proofs.Legal.{legal-exactly}
+use Rattle.machine.proofs.Legal.{among-true, among-given, legal-exactly}
 use Rattle.machine.proofs.Tests.{one-result}
 use Rattle.session.specs.declared.Session.{Session}
-use Rattle.session.specs.Layout.{mark, firstFormat, factsFormat, factsAt, factsBytes, sessionMark, sessionVersion, sessionLength, wordCount, sessionHeader, Header, predicatesAt, programAt, endAt, mostSession}
+use Rattle.session.specs.Layout.{mark, firstFormat, factsFormat, versions, factsAt, factsBytes, sessionMark, sessionVersion, sessionLength, wordCount, sessionHeader, Header, predicatesAt, programAt, endAt, mostSession}
 use Rattle.session.specs.Layout.{factsByte, isHeaded, isSized, isSession, sessionTests, placed, sessionOf, vectorPart, predicatePart, programPart, IsSession, Parts}
 
 -- the one test is in order
@@ -56,29 +56,16 @@ sized header k count n e =
       whole = eqb-true _ _ (both-right (leb count mostWords) _ rest);
     }
 
--- a version that is one of two
-one-of-two : (v : ℕ) → isAmong v (firstFormat ∷ factsFormat ∷ []) ≡ true → (v ≡ firstFormat) ⊎ (v ≡ factsFormat)
-one-of-two v e = go (eqb v firstFormat) (eqb v factsFormat) refl refl
-  where
-    go : (t u : Bool) → eqb v firstFormat ≡ t → eqb v factsFormat ≡ u → (v ≡ firstFormat) ⊎ (v ≡ factsFormat)
-    go true u a b = inl (eqb-true _ _ a)
-    go false true a b = inr (eqb-true _ _ b)
-    go false false a b = let no : false ≡ true = rw (a, b) at e in absurd (let z : _≡_ {A = ℕ} 0 1 = cc in omega arith)
-
 -- the two tests of a version, made one after the other
-pub among-first : (v : ℕ) → v ≡ firstFormat → eqb v firstFormat ≡ isAmong v (firstFormat ∷ factsFormat ∷ [])
+pub among-first : (v : ℕ) → v ≡ firstFormat → eqb v firstFormat ≡ isAmong v versions
 among-first v e = rw e refl
 
-pub among-second : (v : ℕ) → (v ≡ firstFormat → ⊥) → eqb v factsFormat ≡ isAmong v (firstFormat ∷ factsFormat ∷ [])
+pub among-second : (v : ℕ) → (v ≡ firstFormat → ⊥) → eqb v factsFormat ≡ isAmong v versions
 among-second v h = rw (ne-eqb _ _ h) (go (eqb v factsFormat))
   where
     go : (t : Bool) → t ≡ cond t true false
     go true = refl
     go false = refl
-
-two-of : (v : ℕ) → (v ≡ firstFormat) ⊎ (v ≡ factsFormat) → isAmong v (firstFormat ∷ factsFormat ∷ []) ≡ true
-two-of v (inl e) = rw e refl
-two-of v (inr e) = rw e refl
 
 -- the byte of facts has no higher bit exactly where that of the second version has none
 byte-low : (bytes : List ℕ) → sessionVersion bytes ≡ factsFormat → factsByte bytes ≤ allByte → getD bytes factsAt 0 ≤ allByte
@@ -95,7 +82,7 @@ low-byte bytes h = go (eqb (sessionVersion bytes) factsFormat) refl
 tested : (bytes : List ℕ) → isSession bytes ≡ true → IsSession bytes
 tested bytes e =
     let header = sessionHeader (sessionVersion bytes) in
-    let known = isAmong (sessionVersion bytes) (firstFormat ∷ factsFormat ∷ []) in
+    let known = isAmong (sessionVersion bytes) versions in
     let sizes = isSized header (sessionLength bytes) (wordCount bytes) (length bytes) in
     let low = leb (factsByte bytes) allByte in
     let rest = both-right (leb factsAt (length bytes)) (both (isHeaded bytes) (both sizes low)) e in
@@ -104,7 +91,7 @@ tested bytes e =
     let s = sized header (sessionLength bytes) (wordCount bytes) (length bytes) (both-left sizes low last) in
     record {
       marked = same-true _ _ (both-left _ known headed);
-      versioned = one-of-two (sessionVersion bytes) (both-right (sameBytes (sessionMark bytes) mark) _ headed);
+      versioned = among-given (sessionVersion bytes) versions (both-right (sameBytes (sessionMark bytes) mark) _ headed);
       told = λ is. byte-low bytes is (leb-true _ _ (both-right sizes low last));
       legal = legal-exactly _ .0 (s .legal);
       few = s .few;
@@ -117,7 +104,7 @@ passes bytes s =
     rw (
       le-leb _ _ header,
       s .marked,
-      two-of (sessionVersion bytes) (s .versioned),
+      among-true (sessionVersion bytes) versions (s .versioned),
       legal-exactly _ .1 (s .legal),
       le-leb _ _ (s .few),
       eq-eqb _ _ (s .whole),

@@ -25,6 +25,9 @@ firstFormat = 1
 abbrev pub factsFormat : ℕ
 factsFormat = 2
 
+abbrev pub versions : List ℕ
+versions = firstFormat ∷ factsFormat ∷ []
+
 -- the bytes of the mark, of the version, of k, of the count and of the facts
 abbrev pub markBytes : ℕ
 markBytes = 3
@@ -98,7 +101,7 @@ mostSession = endAt (factsAt + factsBytes) mostLength mostWords
 
 -- the mark is right, and the version one of the two
 abbrev pub isHeaded : List ℕ → Bool
-isHeaded bytes = both (sameBytes (sessionMark bytes) mark) (isAmong (sessionVersion bytes) (firstFormat ∷ factsFormat ∷ []))
+isHeaded bytes = both (sameBytes (sessionMark bytes) mark) (isAmong (sessionVersion bytes) versions)
 
 -- k is legal, the words are not too many, and a session of both has n bytes past such a header
 abbrev pub isSized : ℕ → ℕ → ℕ → ℕ → Bool
