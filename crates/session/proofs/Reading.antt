@@ -4,7 +4,7 @@ use mathlib.Core.Path.{_≡_, refl, sym, _∙_, ap}
 use mathlib.Core.Bool.{Bool, true, false, cond}
 use mathlib.Core.Logic.{_⊎_, inl, inr, ⊎-elim}
 use mathlib.Core.List.{List, _++_}
-use Prim.Native.Nat.{ℕ, _+_, _*_, _%_, _≤_}
+use Prim.Native.Nat.{ℕ, _+_, _*_, _%_, _≤_, _<_}
 use native.Mathlib.Nat.{mod-eq-of-lt}
 use native.Mathlib.Omega.{arith}
 use lib.Dec.{eqb, leb}
@@ -21,15 +21,15 @@ use Rattle.machine.specs.Refusal.{DONE, SESSION, inOrder, refused, filesTests, 
 use Rattle.machine.proofs.Legal.{among-true, among-given, legal-exactly}
 use Rattle.machine.proofs.Tests.{one-result}
 use Rattle.session.specs.declared.Session.{Session}
-use Rattle.session.specs.Layout.{mark, firstFormat, factsFormat, versions, factsAt, factsBytes, sessionMark, sessionVersion, sessionLength, wordCount, sessionHeader, Header, predicatesAt, programAt, endAt, mostSession}
-use Rattle.session.specs.Layout.{factsByte, isHeaded, isSized, isSession, sessionTests, placed, sessionOf, vectorPart, predicatePart, programPart, IsSession, Parts}
+use Rattle.session.specs.Layout.{mark, firstFormat, factsFormat, versions, factsAt, leastHeader, mostHeader, sessionMark, sessionVersion, sessionLength, wordCount, sessionHeader, Header, predicatesAt, programAt, endAt, mostSession}
+use Rattle.session.specs.Layout.{factsByte, isHeaded, isSized, isSession, sessionTests, placed, noSession, sessionOf, vectorPart, predicatePart, programPart, IsSession, Parts}
 
 -- the one test is in order
 pub session-in-order : (bytes : List ℕ) → inOrder (sessionTests bytes) ≡ true
 session-in-order bytes = refl
 
 -- a header with facts has their byte, and no header is longer
-pub header-facts : sessionHeader factsFormat ≡ factsAt + factsBytes
+pub header-facts : sessionHeader factsFormat ≡ mostHeader
 unfolding sessionHeader
 header-facts = refl
 
@@ -85,7 +85,7 @@ tested bytes e =
     let known = isAmong (sessionVersion bytes) versions in
     let sizes = isSized header (sessionLength bytes) (wordCount bytes) (length bytes) in
     let low = leb (factsByte bytes) allByte in
-    let rest = both-right (leb factsAt (length bytes)) (both (isHeaded bytes) (both sizes low)) e in
+    let rest = both-right (leb leastHeader (length bytes)) (both (isHeaded bytes) (both sizes low)) e in
     let headed = both-left (isHeaded bytes) (both sizes low) rest in
     let last = both-right (isHeaded bytes) (both sizes low) rest in
     let s = sized header (sessionLength bytes) (wordCount bytes) (length bytes) (both-left sizes low last) in
@@ -100,7 +100,7 @@ tested bytes e =
 
 passes : (bytes : List ℕ) → IsSession bytes → isSession bytes ≡ true
 passes bytes s =
-    let header : factsAt ≤ length bytes = omega (arith, s .whole, header-within (sessionVersion bytes) .least) in
+    let header : leastHeader ≤ length bytes = omega (arith, s .whole, header-within (sessionVersion bytes) .least) in
     rw (
       le-leb _ _ header,
       s .marked,
@@ -125,6 +125,15 @@ session-exactly bytes = go (isSession bytes) refl
 -- no session is longer than the longest, so an input of one byte more is seen to be none
 pub session-most : (bytes : List ℕ) → IsSession bytes → length bytes ≤ mostSession
 session-most bytes s = omega (arith, s .whole, header-within (sessionVersion bytes) .most, s .legal .most, s .few)
+
+-- so longer bytes are none
+pub session-cut : (bytes : List ℕ) → mostSession < length bytes → sessionOf bytes ≡ noSession
+unfolding sessionOf
+session-cut bytes longer = go (isSession bytes) refl
+  where
+    go : (t : Bool) → isSession bytes ≡ t → sessionOf bytes ≡ noSession
+    go true e = absurd (omega (arith, session-most bytes (tested bytes e), longer))
+    go false e = rw e
 
 -- a session that is not refused: its parts have exactly the sizes of its length
 done-session : (bytes : List ℕ) → sessionOf bytes .number ≡ DONE → IsSession bytes

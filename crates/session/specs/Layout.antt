@@ -57,14 +57,21 @@ wordCountAt = lengthAt + lengthBytes
 abbrev pub factsAt : ℕ
 factsAt = wordCountAt + wordCountBytes
 
+-- the bytes of the least header, which has no facts, and of the longest, which has them
+abbrev pub leastHeader : ℕ
+leastHeader = factsAt
+
+abbrev pub mostHeader : ℕ
+mostHeader = factsAt + factsBytes
+
 -- the bytes before the vector file, by the version
 unfoldable pub sessionHeader : ℕ → ℕ
-sessionHeader version = factsAt + cond (eqb version factsFormat) factsBytes 0
+sessionHeader version = cond (eqb version factsFormat) mostHeader leastHeader
 
 pub record Header (version r : ℕ) : Type 0 where
   pub is : r ≡ sessionHeader version
-  pub least : factsAt ≤ r
-  pub most : r ≤ factsAt + factsBytes
+  pub least : leastHeader ≤ r
+  pub most : r ≤ mostHeader
 
 -- the mark, the version, k and the count that the header gives, and its byte of facts, which stands for all in the first version
 abbrev pub sessionMark : List ℕ → List ℕ
@@ -97,7 +104,7 @@ endAt header k count = programAt header k + wordBytes * count
 
 -- the bytes of the longest session
 abbrev pub mostSession : ℕ
-mostSession = endAt (factsAt + factsBytes) mostLength mostWords
+mostSession = endAt mostHeader mostLength mostWords
 
 -- the mark is right, and the version one of the two
 abbrev pub isHeaded : List ℕ → Bool
@@ -110,7 +117,7 @@ isSized header k count n = both (isLegal k) (both (leb count mostWords) (eqb n (
 -- a session: there is a header, and mark, version, k, count, total length and facts are right
 abbrev pub isSession : List ℕ → Bool
 isSession bytes =
-    both (leb factsAt (length bytes))
+    both (leb leastHeader (length bytes))
     (both (isHeaded bytes)
     (both (isSized (sessionHeader (sessionVersion bytes)) (sessionLength bytes) (wordCount bytes) (length bytes)) (leb (factsByte bytes) allByte)))
 

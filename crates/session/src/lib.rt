@@ -1,8 +1,8 @@
 // A session, as the walk program takes it from its input: its bytes read into the places of its parts.
 ghost use mathlib.Core.Path.{_≡_};
-ghost use Prim.Native.Nat.{_+_, _≤_};
+ghost use Prim.Native.Nat.{_≤_};
 ghost use lib.ListN.{length};
-ghost use Rattle.session.specs.Layout.{factsAt, factsBytes, sessionVersion, sessionHeader, Header, factsByteIn, isHeaded, endAt, isSized, placed as placedAt, noSession, sessionOf};
+ghost use Rattle.session.specs.Layout.{leastHeader, mostHeader, sessionVersion, sessionHeader, Header, factsByteIn, isHeaded, endAt, isSized, mostSession, placed as placedAt, noSession, sessionOf};
 ghost use Rattle.machine.specs.Size.{mostLength, mostWords};
 use facts::Facts;
 use machine::Length;
@@ -48,16 +48,27 @@ pub const COUNT_AT: usize = LENGTH_AT + LENGTH_BYTES;
 
 pub const FACTS_AT: usize = COUNT_AT + COUNT_BYTES;
 
+// The bytes of the least header, which has no facts, and of the longest, which has them.
+pub const LEAST_HEADER: usize = FACTS_AT;
+
+pub const MOST_HEADER: usize = FACTS_AT + FACTS_BYTES;
+
 // The bytes of the longest session.
-pub const MOST_SESSION: usize = FACTS_AT
-    + FACTS_BYTES
+pub const MOST_SESSION: usize = MOST_HEADER
     + Length::VECTORS * Length::MOST_BYTES
     + Length::PREDICATES * Length::SEGMENT_PREDICATE * Length::MOST
     + Length::WORD_BYTES * Length::MOST_WORDS;
 
+// The bytes of the longest session: more are none.
+pub fn most_session() -> usize
+    ensures { λ r. ⌜ r ≡ mostSession ⌝ }
+{
+    MOST_SESSION
+}
+
 // The version.
 fn version_of(bytes: &[u8]) -> u64
-    requires { ⌜ factsAt ≤ length (now bytes) ⌝ }
+    requires { ⌜ leastHeader ≤ length (now bytes) ⌝ }
     ensures { λ r. ⌜ r ≡ sessionVersion (now (bytes .entry)) ⌝ }
 {
     parts::number_at(bytes, VERSION_AT, VERSION_BYTES)
@@ -65,7 +76,7 @@ fn version_of(bytes: &[u8]) -> u64
 
 // Whether the bytes start with the mark and one of the versions.
 fn is_headed(bytes: &[u8]) -> bool
-    requires { ⌜ factsAt ≤ length (now bytes) ⌝ }
+    requires { ⌜ leastHeader ≤ length (now bytes) ⌝ }
     ensures { λ r. ⌜ r ≡ isHeaded (now (bytes .entry)) ⌝ }
 {
     if !check::same(&bytes[..MARK_BYTES], &MARK) {
@@ -80,9 +91,9 @@ fn header_of(version: u64) -> usize
     ensures { λ r. ⌜ Header version r ⌝ }
 {
     if version == FACTS_VERSION {
-        FACTS_AT + FACTS_BYTES
+        MOST_HEADER
     } else {
-        FACTS_AT
+        LEAST_HEADER
     }
 }
 
@@ -100,7 +111,7 @@ fn facts_byte(version: u64, bytes: &[u8]) -> u8
 
 // Where the words end past such a header.
 fn end_of(header: usize, k: usize, count: usize) -> usize
-    requires { ⌜ (header ≤ factsAt + factsBytes) × (k ≤ mostLength) × (count ≤ mostWords) ⌝ }
+    requires { ⌜ (header ≤ mostHeader) × (k ≤ mostLength) × (count ≤ mostWords) ⌝ }
     ensures { λ r. ⌜ r ≡ endAt header k count ⌝ }
 {
     let length = Length { k };
@@ -110,7 +121,7 @@ fn end_of(header: usize, k: usize, count: usize) -> usize
 
 // A session of this length and count past such a header, where its parts lie, and its facts.
 fn placed(header: usize, k: usize, count: usize, facts: Facts) -> Session
-    requires { ⌜ (header ≤ factsAt + factsBytes) × (k ≤ mostLength) × (count ≤ mostWords) ⌝ }
+    requires { ⌜ (header ≤ mostHeader) × (k ≤ mostLength) × (count ≤ mostWords) ⌝ }
     ensures { λ r. ⌜ r ≡ placedAt header k count facts ⌝ }
 {
     let length = Length { k };
@@ -131,7 +142,7 @@ fn placed(header: usize, k: usize, count: usize, facts: Facts) -> Session
 
 // Whether the length is legal, the words are not too many, and a session of both has n bytes past such a header.
 fn is_sized(header: usize, k: usize, count: usize, n: usize) -> bool
-    requires { ⌜ header ≤ factsAt + factsBytes ⌝ }
+    requires { ⌜ header ≤ mostHeader ⌝ }
     ensures { λ r. ⌜ r ≡ isSized header k count n ⌝ }
 {
     let length = Length { k };
@@ -164,7 +175,7 @@ fn refuse() -> Session
 pub fn read_session(bytes: &[u8]) -> Session
     ensures { λ r. ⌜ r ≡ sessionOf (now (bytes .entry)) ⌝ }
 {
-    if bytes.len() < FACTS_AT {
+    if bytes.len() < LEAST_HEADER {
         return refuse();
     }
     if !is_headed(bytes) {

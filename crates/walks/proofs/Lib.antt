@@ -1,3 +1,4 @@
 pub mod Printed
 pub mod Outputs
 pub mod Paper
+pub mod Cut

@@ -2,7 +2,6 @@
 -- Assumes nothing.
 use mathlib.Core.Path.{refl}
 use native.Mathlib.Omega.{arith}
-use borrow.Author.Needs.{needs}
 use borrow.Author.Tests.{eq-eqb, ne-eqb}
 use Rattle.session.specs.Layout.{sessionHeader}
 use Rattle.session.proofs.header_of.Statement.{statement}
@@ -17,4 +16,4 @@ unfolding sessionHeader
 returns-2 c = record { is = rw (ne-eqb _ _ (c .if1 .left)) refl; least = omega arith; most = omega arith }
 
 pub header-of-spec : {M : Type 1} → statement M
-header-of-spec = tie.close (tie.spec (λ c. search needs) returns returns-2)
+header-of-spec = tie.close (tie.spec returns returns-2)

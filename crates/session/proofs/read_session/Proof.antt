@@ -13,7 +13,7 @@ use lib.ListN.{length}
 use Rattle.facts.specs.declared.Facts.{Facts}
 use Rattle.facts.specs.Facts.{factsOf, allByte}
 use Rattle.machine.proofs.Checks.{legal-most}
-use Rattle.session.specs.Layout.{factsAt, sessionHeader, sessionVersion, sessionLength, wordCount, factsByteIn, factsByte, isHeaded, isSized, placed, sessionOf}
+use Rattle.session.specs.Layout.{leastHeader, sessionHeader, sessionVersion, sessionLength, wordCount, factsByteIn, factsByte, isHeaded, isSized, placed, sessionOf}
 use Rattle.session.proofs.Reading.{Sized, sized}
 use Rattle.session.proofs.read_session.Statement.{statement}
 use Rattle.session.proofs.read_session.Tie as tie
@@ -39,7 +39,7 @@ abbrev read : tie.After-header-of → List ℕ
 read c = input (passed (past c))
 
 -- past the first test there is a header, and past the second its mark and version are right
-header : (c : tie.Else1) → leb factsAt (length (input c)) ≡ true
+header : (c : tie.Else1) → leb leastHeader (length (input c)) ≡ true
 header c = le-leb _ _ (c .if1 .left)
 
 headed : (c : tie.Else2) → isHeaded (input (passed c)) ≡ true
