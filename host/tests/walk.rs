@@ -88,3 +88,22 @@ fn what_is_no_session_is_refused() {
         assert_eq!(reference::walk(&session), "14\n");
     }
 }
+
+/// k = 16 and 256 words in version 2 with all facts: 9 + 8192 + 512 + 1024 bytes. With one byte more it is no session.
+#[test]
+fn the_longest_session_is_walked_and_a_longer_one_is_none() {
+    let mut session = vec![b'L', b'N', b'W', 2, 0, 16, 0, 1, 31];
+    session.resize(9 + 8192 + 512, 0);
+    for _ in 0..256 {
+        session.extend(0x0400_2020u32.to_le_bytes());
+    }
+    assert_eq!(session.len(), 9737);
+    let mut machine = Machine::from_session(&session).expect("a session");
+    assert_eq!(machine.facts(), Facts::ALL);
+    let lines = machine.walk();
+    assert!(lines.ends_with("\n254 9 04002020\n"));
+    assert_eq!(reference::walk(&session), lines);
+    session.push(0);
+    assert_eq!(Machine::from_session(&session), Err(Refusal::Session));
+    assert_eq!(reference::walk(&session), "14\n");
+}

@@ -7,7 +7,7 @@ import struct
 import tempfile
 
 from . import facts, words
-from .common import WALK, Ran, expect, place, read, run
+from .common import WALK, Ran, expect, place, read, run, walk
 
 PAPER = ("examples", "paper.session")
 TEXT = b"k 1\nz1.b 1 2\np0.b all\nprogram\nsaddv d0, p0, z1.b\n"
@@ -18,6 +18,7 @@ def check():
     with tempfile.TemporaryDirectory() as room:
         told_by_mark(room)
         refusals()
+        longest()
         names(room)
         outputs()
         lanes()
@@ -68,6 +69,19 @@ def refusals():
     ):
         run("-", stdin=data).expect(3, "14 SESSION: ", reason, out=b"14\n")
         run("--lanes", "-", stdin=data).expect(3, "14 SESSION: ", out=b"14\n")
+
+
+def longest():
+    """The longest session is walked, and with any byte more it is none: walk sees that there is more than the longest."""
+    session = head(2, 16, 256) + b"\x1f" + bytes(8192 + 512) + struct.pack("<I", 0x04002020) * 256
+    expect(len(session) == 9 + 8192 + 512 + 1024, "the longest session has", str(len(session)), "bytes")
+    lines = walk(session)
+    expect(lines.count("\n") == 255 and lines.endswith("\n254 9 04002020\n"), "the longest session ends otherwise:", lines[-200:])
+    run("-", stdin=session).expect(3, "word 254, 04002020, is refused with 9 FULL", out=lines.encode())
+    for more in (1, 2, len(session)):
+        said = walk(session + bytes(more))
+        expect(said == "14\n", "with", str(more), "bytes more walk writes", said[:200])
+    run("-", stdin=session + bytes(1)).expect(3, "14 SESSION: ", "9738 bytes", out=b"14\n")
 
 
 def names(room):
