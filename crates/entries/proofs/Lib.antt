@@ -1,3 +1,4 @@
 pub mod Places
 pub mod Formed
 pub mod Written
+pub mod Literals

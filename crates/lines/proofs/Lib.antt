@@ -3,3 +3,4 @@ pub mod Hex
 pub mod Lines
 pub mod Longest
 pub mod Placed
+pub mod Literals

@@ -25,7 +25,7 @@ use Rattle.digits.specs.Put.{Put}
 use Rattle.names.specs.Named.{leastOut, textOfDecoded, textOfWord, nameRefused, Named}
 use Rattle.names.proofs.Pieces.{word-length}
 use Rattle.parts.specs.Part.{laid}
-use Rattle.lines.specs.Line.{withNewline, lineTests, lineRefused, Written}
+use Rattle.lines.specs.Line.{withNewline, lineTests, lineRefused, sessionLineTests, Written}
 
 -- a field with its newline
 pub ended-length : (field : List ℕ) → length (withNewline field) ≡ length field + 1
@@ -40,6 +40,13 @@ pub line-exactly : (k : ℕ) (facts : Facts) (s : State) (program : List ℕ) (p
     → lineRefused k facts s program position number n ≡ suc m ↔ First (lineTests k facts s program position number n) (suc m)
 unfolding lineRefused
 line-exactly k facts s program position number n m = first-exactly (lineTests k facts s program position number n) m
+
+-- and of the line of what is no session, whose one test is OUT's
+pub session-line-in-order : (n : ℕ) → inOrder (sessionLineTests n) ≡ true
+session-line-in-order n = refl
+
+pub session-line-exactly : (n m : ℕ) → refused (sessionLineTests n) ≡ suc m ↔ First (sessionLineTests n) (suc m)
+session-line-exactly n m = first-exactly (sessionLineTests n) m
 
 -- two results that the contract of a call that writes at the front allows are the same
 pub line-determined : (refusal : ℕ) (line old new new′ : List ℕ) (r r′ : Answer) → Written refusal line old new r → Written refusal line old new′ r′

@@ -2,3 +2,4 @@ pub mod Keys
 pub mod Pieces
 pub mod Naming
 pub mod Examples
+pub mod Literals
