@@ -1,4 +1,4 @@
--- Decimal numbers, on both sides of where a digit more is needed, up to the greatest of 64 bits, computed.
+-- Decimal numbers, on both sides of where a digit more is needed, up to the greatest of 64 bits, and the sixteen digits, computed.
 -- Assumes nothing.
 use mathlib.Core.Path.{_≡_, refl}
 use mathlib.Core.List.{[], _∷_, map}
@@ -23,3 +23,9 @@ example-decimals = refl
 pub example-longest : decimalWidth (2 ^ 64 - 1) ≡ mostDigits
 unfolding widthWithin decimalWidth
 example-longest = refl
+
+-- the digit of each value below sixteen, in ASCII: 0 to 9, then a to f
+pub example-digits : map digitOf (0 ∷ 1 ∷ 2 ∷ 3 ∷ 4 ∷ 5 ∷ 6 ∷ 7 ∷ 8 ∷ 9 ∷ 10 ∷ 11 ∷ 12 ∷ 13 ∷ 14 ∷ 15 ∷ [])
+    ≡ 0x30 ∷ 0x31 ∷ 0x32 ∷ 0x33 ∷ 0x34 ∷ 0x35 ∷ 0x36 ∷ 0x37 ∷ 0x38 ∷ 0x39 ∷ 0x61 ∷ 0x62 ∷ 0x63 ∷ 0x64 ∷ 0x65 ∷ 0x66 ∷ []
+unfolding digitOf
+example-digits = refl
