@@ -53,9 +53,9 @@ fn show_length(k: usize, program: &[u8])
 // Shows every word at three lengths.
 fn show_lengths(program: &mut [u8]) {
     fillings::fill_words(program);
-    show_length(Length::LEAST, program);
+    show_length(Length::least().k, program);
     show_length(4, program);
-    show_length(Length::MOST, program);
+    show_length(Length::most().k, program);
 }
 
 fn main() {

@@ -1,4 +1,5 @@
 pub mod Bytes
 pub mod Residues
+pub mod Extended
 pub mod Sums
 pub mod Written

@@ -2,3 +2,4 @@ pub mod Places
 pub mod Tests
 pub mod Legal
 pub mod Checks
+pub mod Literals

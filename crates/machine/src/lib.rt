@@ -2,7 +2,7 @@
 ghost use mathlib.Core.Path.{_≡_};
 ghost use Prim.Native.Nat.{_≤_};
 ghost use lib.ListN.{length};
-ghost use Rattle.machine.specs.Size.{mostLength, isLegal, vectorBytes, predicateBytes, vectorFile, predicateFile};
+ghost use Rattle.machine.specs.Size.{leastLength, mostLength, isLegal, vectorBytes, predicateBytes, vectorFile, predicateFile};
 ghost use Rattle.machine.specs.Refusal.{refused, lengthTests, filesTests, programTests};
 
 pub mod refusal;
@@ -22,6 +22,19 @@ impl Length {
     pub const LEAST: usize = 1;
 
     pub const MOST: usize = 16;
+
+    // The least length, and the most.
+    pub fn least() -> Length
+        ensures { λ r. ⌜ r .k ≡ leastLength ⌝ }
+    {
+        Length { k: Length::LEAST }
+    }
+
+    pub fn most() -> Length
+        ensures { λ r. ⌜ r .k ≡ mostLength ⌝ }
+    {
+        Length { k: Length::MOST }
+    }
 
     // Whether k is a length that the machine may have: a power of two from the least to the most.
     pub fn is_legal(self) -> bool

@@ -172,8 +172,8 @@ fn show_cores() {
 }
 
 fn main() {
-    show_length(Length::LEAST);
+    show_length(Length::least().k);
     show_length(4);
-    show_length(Length::MOST);
+    show_length(Length::most().k);
     show_cores();
 }
