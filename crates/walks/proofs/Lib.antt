@@ -2,3 +2,4 @@ pub mod Printed
 pub mod Outputs
 pub mod Paper
 pub mod Cut
+pub mod Whole

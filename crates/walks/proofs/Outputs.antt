@@ -106,7 +106,7 @@ unfolding sessionLine digitsIn widthWithin decimalWidth
 session-short = omega arith
 
 -- an output is not longer than the longest, and lies within what is lent
-output-most : (input : List ℕ) → length (outputOf input) ≤ mostOutput
+pub output-most : (input : List ℕ) → length (outputOf input) ≤ mostOutput
 unfolding outputOf
 output-most input = go (sessionOf input .number)
   where
