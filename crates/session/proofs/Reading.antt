@@ -21,8 +21,9 @@ use Rattle.machine.specs.Refusal.{DONE, SESSION, inOrder, refused, filesTests, 
 use Rattle.machine.proofs.Legal.{among-true, among-given, legal-exactly}
 use Rattle.machine.proofs.Tests.{one-result}
 use Rattle.session.specs.declared.Session.{Session}
-use Rattle.session.specs.Layout.{mark, firstFormat, factsFormat, versions, factsAt, leastHeader, mostHeader, sessionMark, sessionVersion, sessionLength, wordCount, sessionHeader, Header, predicatesAt, programAt, endAt, mostSession}
-use Rattle.session.specs.Layout.{factsByte, isHeaded, isSized, isSession, sessionTests, placed, noSession, sessionOf, vectorPart, predicatePart, programPart, IsSession, Parts}
+use Rattle.session.specs.Layout.{mark, firstFormat, factsFormat, versions, factsAt, leastHeader, mostHeader, sessionMark, sessionVersion, sessionLength}
+use Rattle.session.specs.Layout.{wordCount, sessionHeader, Header, predicatesAt, programAt, endAt, mostSession, factsByte, isHeaded, isSized, isSession}
+use Rattle.session.specs.Layout.{sessionTests, placed, noSession, sessionOf, vectorPart, predicatePart, programPart, IsSession, Parts}
 
 -- the one test is in order
 pub session-in-order : (bytes : List ℕ) → inOrder (sessionTests bytes) ≡ true

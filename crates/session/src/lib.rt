@@ -2,7 +2,8 @@
 ghost use mathlib.Core.Path.{_≡_};
 ghost use Prim.Native.Nat.{_≤_};
 ghost use lib.ListN.{length};
-ghost use Rattle.session.specs.Layout.{leastHeader, mostHeader, sessionVersion, sessionHeader, Header, factsByteIn, isHeaded, endAt, isSized, mostSession, placed as placedAt, noSession, sessionOf};
+ghost use Rattle.session.specs.Layout.{leastHeader, mostHeader, sessionVersion, sessionHeader, Header, factsByteIn};
+ghost use Rattle.session.specs.Layout.{isHeaded, endAt, isSized, mostSession, placed as placedAt, noSession, sessionOf};
 ghost use Rattle.machine.specs.Size.{mostLength, mostWords};
 use facts::Facts;
 use machine::Length;
