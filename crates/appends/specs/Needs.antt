@@ -1,20 +1,13 @@
 -- What the code that writes a journal's entries asks of its caller, and what it leaves.
-use Prim.Native.Nat.{ℕ, _+_, _-_, _≤_, _<_}
+use Prim.Native.Nat.{ℕ, _-_, _<_}
 use mathlib.Core.Path.{_≡_}
 use mathlib.Core.List.{List}
-use lib.ListN.{length}
-use Rattle.machine.specs.Size.{mostLength, mostWords}
 use Rattle.registers.specs.declared.Kind.the-variants.{Vector}
 use Rattle.registers.specs.Register.{InFile, withVector}
-use Rattle.entries.specs.Layout.{entryBytes, entryAt, heldOf, entryIn, lastEntry, popped}
+use Rattle.entries.specs.Layout.{heldOf, entryIn, lastEntry, popped}
+use Rattle.entries.specs.Needs.{EntryInside}
 
--- entry i lies inside a journal
-pub record EntryInside (k i : ℕ) (journal : List ℕ) : Type 0 where
-  pub legal : k ≤ mostLength
-  pub few : i ≤ mostWords
-  pub inside : entryAt k journal i + entryBytes k ≤ length journal
-
--- a register, and a journal that has room for an entry
+-- a register, and a journal that has a place for an entry more
 pub record Append (k d : ℕ) (z journal : List ℕ) : Type 0 where
   pub register : InFile k Vector d z
   pub entry : EntryInside k (heldOf journal) journal

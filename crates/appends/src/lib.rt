@@ -1,17 +1,17 @@
 // What writes a journal: a fresh one, an entry appended, and the last entry given up and put back into its register.
 ghost use mathlib.Core.Path.{_≡_};
-ghost use Prim.Native.Nat.{_≤_};
+ghost use Prim.Native.Nat.{_+_, _≤_};
 ghost use lib.ListN.{length, replicate};
+ghost use Rattle.machine.specs.Size.{mostLength};
 ghost use Rattle.registers.specs.Register.{vectorOf, withVector};
-ghost use Rattle.entries.specs.Layout.{headerBytes, withCount, freshJournal, entryIn, pushed};
-ghost use Rattle.entries.specs.Needs.{Headed};
+ghost use Rattle.entries.specs.Layout.{countAt, countBytes, layoutOf, withCount, freshJournal, entryIn, pushed};
 ghost use Rattle.appends.specs.Needs.{Restorable, Append, TakeBack, TakenBack};
 use machine::Length;
 use registers::Kind;
 
 // Writes the count.
 fn put_count(journal: &mut [u8], n: usize)
-    requires { ⌜ headerBytes ≤ length (now journal) ⌝ }
+    requires { ⌜ countAt + countBytes ≤ length (now journal) ⌝ }
     ensures { λ _. ⌜ now (journal .exit) ≡ withCount n (now (journal .entry)) ⌝ }
 {
     parts::put_number(journal, entries::COUNT_AT, entries::COUNT, n as u64);
@@ -19,19 +19,19 @@ fn put_count(journal: &mut [u8], n: usize)
 
 // Sets a journal's bytes to zeros, those after its header too.
 fn clear(journal: &mut [u8])
-    requires { ⌜ headerBytes ≤ length (now journal) ⌝ }
+    requires { ⌜ countAt + countBytes ≤ length (now journal) ⌝ }
     ensures { λ _. ⌜ now (journal .exit) ≡ replicate (length (now (journal .entry))) 0 ⌝ }
 {
     parts::clear(journal);
 }
 
-// Writes a fresh journal's bytes.
-pub fn put_fresh(k: usize, journal: &mut [u8])
-    requires { ⌜ Headed k (now journal) ⌝ }
-    ensures { λ _. ⌜ now (journal .exit) ≡ freshJournal k (length (now (journal .entry))) ⌝ }
+// Writes a fresh journal's bytes, of a version.
+pub fn put_fresh(k: usize, version: usize, journal: &mut [u8])
+    requires { ⌜ (k ≤ mostLength) × (layoutOf version .header ≤ length (now journal)) ⌝ }
+    ensures { λ _. ⌜ now (journal .exit) ≡ freshJournal version k (length (now (journal .entry))) ⌝ }
 {
     clear(journal);
-    let heading = entries::heading(k);
+    let heading = entries::heading(version, k);
     bytes::copy(&heading, journal);
 }
 
@@ -41,7 +41,7 @@ fn restore(k: usize, z: &mut [u8], journal: &[u8], i: usize)
     ensures { λ _. ⌜ now (z .exit) ≡ withVector k (entryIn k (now (journal .entry)) i .number) (entryIn k (now (journal .entry)) i .old) (now (z .entry)) ⌝ }
 {
     let length = Length { k };
-    let at = entries::slot_at(k, i);
+    let at = entries::entry_at(k, journal, i);
     let old = at + 1;
     let end = old + length.vector_bytes();
     registers::write_register(k, Kind::Vector, z, journal[at] as usize, &journal[old..end]);
@@ -53,7 +53,7 @@ pub fn append(k: usize, z: &[u8], journal: &mut [u8], d: usize)
     ensures { λ _. ⌜ now (journal .exit) ≡ pushed k (record { number = d; old = vectorOf k d (now (z .entry)) }) (now (journal .entry)) ⌝ }
 {
     let i = entries::held_of(journal);
-    let at = entries::slot_at(k, i);
+    let at = entries::entry_at(k, journal, i);
     journal[at] = d as u8;
     parts::overwrite(journal, at + 1, registers::register(k, Kind::Vector, z, d));
     put_count(journal, i + 1);
@@ -66,6 +66,7 @@ pub fn take_back(k: usize, z: &mut [u8], journal: &mut [u8])
 {
     let i = entries::held_of(journal) - 1;
     restore(k, z, journal, i);
-    parts::clear_part(journal, entries::slot_at(k, i), entries::entry_bytes(k));
+    let at = entries::entry_at(k, journal, i);
+    parts::clear_part(journal, at, entries::entry_bytes(k));
     put_count(journal, i);
 }

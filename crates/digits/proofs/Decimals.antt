@@ -13,7 +13,7 @@ use borrow.Author.Tests.{ltb-true, ltb-false}
 use Rattle.digits.specs.Digits.{digitOf, digitsIn, mostDigits, widthWithin, decimalWidth, decimal}
 use Rattle.digits.proofs.Puts.{put-then, put-one}
 
--- so many digits
+-- a number in digits has as many as are asked for
 pub digits-length : (base count n : ℕ) → length (digitsIn base count n) ≡ count
 unfolding digitsIn
 digits-length base zero n = refl
@@ -108,7 +108,7 @@ within-holds (suc more) n h = go (width more n) (within-holds more (n / 10) (div
     go (one p e) held = rw e p
     go (further p e) held = rw e (omega (arith, pow-suc 10 (widthWithin more (n / 10))))
 
--- the first of two digits or more is no zero
+-- of a number that has two digits or more the first is no zero
 within-least : (most w n : ℕ) → widthWithin most n ≡ suc (suc w) → 10 ^ suc w ≤ n
 unfolding widthWithin
 within-least zero w n e = absurd (omega arith)
@@ -123,7 +123,7 @@ within-least (suc more) (suc w) n e = go (width more n) (λ f. within-least more
     go (one p f) least = absurd (omega arith)
     go (further p f) least = omega (arith, pow-suc 10 (suc w), least (omega arith))
 
--- the same of a number of 64 bits
+-- how many digits a number of 64 bits has: their bounds, that they hold it, and that the first of several is no zero
 pub width-most : (n : ℕ) → decimalWidth n ≤ mostDigits
 unfolding decimalWidth
 width-most n = within-most mostDigits n
@@ -155,7 +155,7 @@ decimal-least n = rw digits-length (width-least n)
 pub decimal-short : (n : ℕ) → n < 100 → length (decimal n) ≤ 2
 decimal-short n h = rw digits-length (width-below 1 n h)
 
--- those of one digit and of two
+-- a decimal of one digit, and one of two
 pub decimal-one : (n : ℕ) → decimalWidth n ≡ 1 → decimal n ≡ digitOf (n % 10) ∷ []
 unfolding digitsIn
 decimal-one n e = rw e

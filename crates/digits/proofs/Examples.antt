@@ -19,7 +19,7 @@ pub example-decimals : map decimal (0 ∷ 9 ∷ 10 ∷ 99 ∷ 100 ∷ 65535 ∷ 
 unfolding digitOf digitsIn widthWithin decimalWidth
 example-decimals = refl
 
--- the longest is as long as is said
+-- the greatest number of 64 bits has the most digits
 pub example-longest : decimalWidth (2 ^ 64 - 1) ≡ mostDigits
 unfolding widthWithin decimalWidth
 example-longest = refl

@@ -13,7 +13,7 @@ sets-append : (l : List ℕ) (i : ℕ) (p q : List ℕ) → sets l i (p ++ q) �
 sets-append l i [] q = rw add-zero
 sets-append l i (a ∷ p) q = rw (add-suc, ← suc-add) (sets-append _ (suc i) p q)
 
--- a piece and one after it
+-- a piece written and one written after it are one piece written
 pub put-then : {l m n p q : List ℕ} {at next last : ℕ} → Put l at p m next → Put m next q n last → Put l at (p ++ q) n last
 put-then {l} {m} {n} {p} {q} {at} {next} {last} a b =
     record {
@@ -21,7 +21,7 @@ put-then {l} {m} {n} {p} {q} {at} {next} {last} a b =
       after = b .after ∙ rw (length-append p q) (omega (arith, a .after));
     }
 
--- the bytes keep their number
+-- what a piece is written into keeps its number of bytes
 pub put-length : {l m p : List ℕ} {at next : ℕ} → Put l at p m next → length m ≡ length l
 put-length {l} {m} {p} {at} {next} a = ap length (a .bytes) ∙ length-sets l at p
 
@@ -32,11 +32,11 @@ room-first at p q h = omega (arith, length-append p q)
 pub room-rest : (q : List ℕ) {l m p : List ℕ} {at next : ℕ} → Put l at p m next → at + length (p ++ q) ≤ length l → next + length q ≤ length m
 room-rest q {l} {m} {p} {at} {next} a h = omega (arith, length-append p q, put-length a, a .after)
 
--- nothing
+-- nothing written is the empty piece
 pub put-none : (l : List ℕ) (at : ℕ) → Put l at [] l at
 put-none l at = record { bytes = refl; after = sym (add-zero at) }
 
--- a byte
+-- a byte set is a piece of one byte
 pub put-one : (l : List ℕ) (at b : ℕ) → Put l at (b ∷ []) (set l at b) (at + 1)
 put-one l at b = record { bytes = refl; after = refl }
 

@@ -1,3 +1,5 @@
 pub mod Layout
+pub mod Formed
 pub mod Tests
 pub mod Needs
+pub mod Restored

@@ -4,12 +4,12 @@ use mathlib.Core.Bool.{not}
 use mathlib.Core.List.{List, [], _∷_, _++_}
 use lib.ListN.{length}
 use Rattle.machine.specs.Refusal.{Test, test, ROOM, JOURNAL}
-use Rattle.entries.specs.Layout.{isRoom, isJournal}
+use Rattle.entries.specs.Layout.{versionOf, isRoom, isJournal}
 
--- the journal's size is outside its limits
-abbrev pub roomTests : ℕ → List Test
-roomTests n = test ROOM (not (isRoom n)) ∷ []
+-- the test of a journal's size: it is outside the limits of a version
+abbrev pub roomTests : ℕ → ℕ → List Test
+roomTests version n = test ROOM (not (isRoom version n)) ∷ []
 
--- nor is it well formed
+-- the tests of a lent journal: its size, by the version that it names, and its form
 abbrev pub journalTests : ℕ → List ℕ → List Test
-journalTests k journal = roomTests (length journal) ++ test JOURNAL (not (isJournal k journal)) ∷ []
+journalTests k journal = roomTests (versionOf journal) (length journal) ++ test JOURNAL (not (isJournal k journal)) ∷ []

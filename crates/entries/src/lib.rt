@@ -1,15 +1,15 @@
-// The journal's bytes: mark, version, k and count, then entries of a register's number and its old bytes; what is read of them, and whether a
-// journal is well formed.
+// The journal's bytes, by the version that they name: mark, version, k and count, then entries of a register's number and its old bytes; what is
+// read of them, and whether a journal is well formed.
 ghost use mathlib.Core.Path.{_≡_};
-ghost use Prim.Native.Nat.{_≤_};
+ghost use Prim.Native.Nat.{_+_, _^_, _≤_, _<_};
 ghost use lib.ListN.{length, take};
 ghost use Rattle.parts.specs.Part.{sameBytes};
-ghost use Rattle.machine.specs.Size.{mostLength, mostWords};
+ghost use Rattle.machine.specs.Size.{mostLength};
 ghost use Rattle.machine.specs.Refusal.{refused};
-ghost use Rattle.entries.specs.Layout.{heading as headingOf, version, layoutOf, headerBytes, entryBytes, capacity as capacityOf};
-ghost use Rattle.entries.specs.Layout.{countAt, slotAt, heldOf, positionOf, isJournal, areNamed, firstEntries};
+ghost use Rattle.entries.specs.Layout.{heading as headingOf, isVersion, layoutOf, versionOf, headerOf, greatestOf, entryBytes, capacityFor};
+ghost use Rattle.entries.specs.Layout.{countAt, countBytes, slotAt, slotOf, entryAt, heldOf, positionOf, isFull, isJournal, areNamed, firstEntries};
 ghost use Rattle.entries.specs.Tests.{roomTests, journalTests};
-ghost use Rattle.entries.specs.Needs.{SameLayout, Headed, Fits};
+ghost use Rattle.entries.specs.Needs.{SameLayout, Headed, EntryInside, Fits};
 use machine::Length;
 use machine::refusal;
 
@@ -19,21 +19,42 @@ pub struct Layout {
     pub greatest: usize,
 }
 
-// The mark, and the version that is written and read.
+// The mark, the first version, and where the version stands and its bytes.
 pub const MARK: [u8; 3] = [76, 78, 74];
 
-pub const VERSION: usize = 1;
+pub const FIRST_VERSION: usize = 1;
 
-// Where the count stands, its bytes, and the bytes of the largest journal.
+pub const VERSION_AT: usize = 3;
+
+pub const VERSION_BYTES: usize = 2;
+
+// Where the count stands, its bytes, the bytes that a journal of any version has, and those of the largest.
 pub const COUNT_AT: usize = 6;
 
 pub const COUNT: usize = 2;
 
+pub const LEAST_HEADER: usize = COUNT_AT + COUNT;
+
 pub const MOST: usize = 65536;
 
-// The layout of a version: there is one.
-pub fn layout_of(number: usize) -> Layout
-    ensures { λ r. ⌜ SameLayout r (layoutOf number) ⌝ }
+// The version that a journal names.
+pub fn version_of(journal: &[u8]) -> usize
+    requires { ⌜ countAt + countBytes ≤ length (now journal) ⌝ }
+    ensures { λ r. ⌜ r ≡ versionOf (now (journal .entry)) ⌝ }
+{
+    parts::number_at(journal, VERSION_AT, VERSION_BYTES) as usize
+}
+
+// Whether a version is defined: one is.
+pub fn is_version(version: usize) -> bool
+    ensures { λ r. ⌜ r ≡ isVersion version ⌝ }
+{
+    version == FIRST_VERSION
+}
+
+// The layout of a version.
+pub fn layout_of(version: usize) -> Layout
+    ensures { λ r. ⌜ SameLayout r (layoutOf version) ⌝ }
 {
     Layout {
         header: COUNT_AT + COUNT,
@@ -41,18 +62,36 @@ pub fn layout_of(number: usize) -> Layout
     }
 }
 
-// The refusal of a journal's size: ROOM or DONE.
-pub fn check_room(journal: &[u8]) -> u8
-    ensures { λ r. ⌜ r ≡ refused (roomTests (length (now (journal .entry)))) ⌝ }
+// The layout of a journal's version.
+fn layout_in(journal: &[u8]) -> Layout
+    requires { ⌜ headerOf (now journal) ≤ length (now journal) ⌝ }
+    ensures { λ r. ⌜ SameLayout r (layoutOf (versionOf (now (journal .entry)))) ⌝ }
 {
-    let layout = layout_of(VERSION);
-    if journal.len() < layout.header {
+    layout_of(version_of(journal))
+}
+
+// The refusal of a size for a version: ROOM or DONE.
+pub fn check_room_for(version: usize, bytes: usize) -> u8
+    ensures { λ r. ⌜ r ≡ refused (roomTests version bytes) ⌝ }
+{
+    let layout = layout_of(version);
+    if bytes < layout.header {
         return refusal::ROOM;
     }
-    if MOST < journal.len() {
+    if MOST < bytes {
         return refusal::ROOM;
     }
     refusal::DONE
+}
+
+// The refusal of a journal's size: ROOM or DONE.
+pub fn check_room(journal: &[u8]) -> u8
+    ensures { λ r. ⌜ r ≡ refused (roomTests (versionOf (now (journal .entry))) (length (now (journal .entry)))) ⌝ }
+{
+    if journal.len() < LEAST_HEADER {
+        return refusal::ROOM;
+    }
+    check_room_for(version_of(journal), journal.len())
 }
 
 // The bytes of an entry.
@@ -63,27 +102,43 @@ pub fn entry_bytes(k: usize) -> usize
     1 + Length { k }.vector_bytes()
 }
 
-// How many entries a journal of so many bytes holds.
-pub fn capacity(k: usize, bytes: usize) -> usize
-    requires { ⌜ (k ≤ mostLength) × (headerBytes ≤ bytes) ⌝ }
-    ensures { λ r. ⌜ r ≡ capacityOf k bytes ⌝ }
+// How many entries so many bytes hold after a header.
+pub fn capacity(header: usize, k: usize, bytes: usize) -> usize
+    requires { ⌜ (k ≤ mostLength) × (header ≤ bytes) ⌝ }
+    ensures { λ r. ⌜ r ≡ capacityFor header k bytes ⌝ }
 {
-    let layout = layout_of(VERSION);
-    (bytes - layout.header) / entry_bytes(k)
+    (bytes - header) / entry_bytes(k)
 }
 
-// Where a slot starts.
-pub fn slot_at(k: usize, slot: usize) -> usize
-    requires { ⌜ (k ≤ mostLength) × (slot ≤ mostWords) ⌝ }
-    ensures { λ r. ⌜ r ≡ slotAt k slot ⌝ }
+// Where a slot starts after a header.
+pub fn slot_at(header: usize, k: usize, slot: usize) -> usize
+    requires { ⌜ (k ≤ mostLength) × (slotAt header k slot < 2 ^ 64) ⌝ }
+    ensures { λ r. ⌜ r ≡ slotAt header k slot ⌝ }
 {
-    let layout = layout_of(VERSION);
-    layout.header + slot * entry_bytes(k)
+    header + slot * entry_bytes(k)
+}
+
+// The slot of a journal's entry i, the oldest being 0.
+pub fn slot_of(k: usize, journal: &[u8], i: usize) -> usize
+    requires { ⌜ EntryInside k i (now journal) ⌝ }
+    ensures { λ r. ⌜ r ≡ slotOf k (now (journal .entry)) i ⌝ }
+{
+    let slot = i;
+    slot
+}
+
+// Where a journal's entry i starts.
+pub fn entry_at(k: usize, journal: &[u8], i: usize) -> usize
+    requires { ⌜ EntryInside k i (now journal) ⌝ }
+    ensures { λ r. ⌜ r ≡ entryAt k (now (journal .entry)) i ⌝ }
+{
+    let layout = layout_in(journal);
+    slot_at(layout.header, k, slot_of(k, journal, i))
 }
 
 // How many entries a journal holds: the number in the two bytes of its count.
 pub fn held_of(journal: &[u8]) -> usize
-    requires { ⌜ headerBytes ≤ length (now journal) ⌝ }
+    requires { ⌜ headerOf (now journal) ≤ length (now journal) ⌝ }
     ensures { λ r. ⌜ r ≡ heldOf (now (journal .entry)) ⌝ }
 {
     parts::number_at(journal, COUNT_AT, COUNT) as usize
@@ -91,40 +146,49 @@ pub fn held_of(journal: &[u8]) -> usize
 
 // The position: the place of the next step's word.
 pub fn position_of(journal: &[u8]) -> usize
-    requires { ⌜ headerBytes ≤ length (now journal) ⌝ }
+    requires { ⌜ headerOf (now journal) ≤ length (now journal) ⌝ }
     ensures { λ r. ⌜ r ≡ positionOf (now (journal .entry)) ⌝ }
 {
     held_of(journal)
 }
 
+// Whether a journal has no room for a further entry.
+pub fn is_full(k: usize, journal: &[u8]) -> bool
+    requires { ⌜ Headed k (now journal) ⌝ }
+    ensures { λ r. ⌜ r ≡ isFull k (now (journal .entry)) ⌝ }
+{
+    let layout = layout_in(journal);
+    capacity(layout.header, k, journal.len()) <= held_of(journal)
+}
+
 // What stands before the count: the mark, the version and k.
-pub fn heading(k: usize) -> [u8; 6]
+pub fn heading(version: usize, k: usize) -> [u8; 6]
     requires { ⌜ k ≤ mostLength ⌝ }
     ensures { λ r. ⌜ r ≡ headingOf version k ⌝ }
 {
-    let low = (VERSION % 256) as u8;
-    let high = (VERSION / 256) as u8;
+    let low = (version % 256) as u8;
+    let high = (version / 256 % 256) as u8;
     [MARK[0], MARK[1], MARK[2], low, high, k as u8]
 }
 
 // Whether mark, version and k agree.
 fn has_heading(k: usize, journal: &[u8]) -> bool
     requires { ⌜ Headed k (now journal) ⌝ }
-    ensures { λ r. ⌜ r ≡ sameBytes (take countAt (now (journal .entry))) (headingOf version k) ⌝ }
+    ensures { λ r. ⌜ r ≡ sameBytes (take countAt (now (journal .entry))) (headingOf (versionOf (now (journal .entry))) k) ⌝ }
 {
-    let heading = heading(k);
+    let heading = heading(version_of(journal), k);
     check::same(&journal[..COUNT_AT], &heading)
 }
 
 // Whether the first n entries have numbers that entries may have.
 fn are_named(k: usize, journal: &[u8], n: usize) -> bool
     requires { ⌜ Fits k n (now journal) ⌝ }
-    ensures { λ r. ⌜ r ≡ areNamed (firstEntries k (now (journal .entry)) n) ⌝ }
+    ensures { λ r. ⌜ r ≡ areNamed (greatestOf (now (journal .entry))) (firstEntries k (now (journal .entry)) n) ⌝ }
 {
-    let layout = layout_of(VERSION);
+    let layout = layout_in(journal);
     let mut i = 0;
     while i < n {
-        let at = slot_at(k, i);
+        let at = slot_at(layout.header, k, slot_of(k, journal, i));
         if layout.greatest < journal[at] as usize {
             return false;
         }
@@ -138,6 +202,9 @@ fn is_journal(k: usize, journal: &[u8]) -> bool
     requires { ⌜ Headed k (now journal) ⌝ }
     ensures { λ r. ⌜ r ≡ isJournal k (now (journal .entry)) ⌝ }
 {
+    if !is_version(version_of(journal)) {
+        return false;
+    }
     if !has_heading(k, journal) {
         return false;
     }
@@ -145,7 +212,8 @@ fn is_journal(k: usize, journal: &[u8]) -> bool
     if Length::MOST_WORDS < held {
         return false;
     }
-    if capacity(k, journal.len()) < held {
+    let layout = layout_in(journal);
+    if capacity(layout.header, k, journal.len()) < held {
         return false;
     }
     are_named(k, journal, held)

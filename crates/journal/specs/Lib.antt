@@ -1,3 +1,2 @@
+pub mod Left
 pub mod Calls
-pub mod Needs
-pub mod Frame

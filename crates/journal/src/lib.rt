@@ -1,6 +1,8 @@
 // The step-back journal: a fresh one, its position, and whether a step or a step back is refused.
 ghost use mathlib.Core.Path.{_≡_};
 ghost use Rattle.registers.specs.State.{state};
+ghost use Rattle.entries.specs.Layout.{firstVersion};
+ghost use Rattle.journal.specs.Left.{buffersOf};
 ghost use Rattle.journal.specs.Calls.{startRefused, backRefused, positionRefused, positionAnswer, Freshened};
 use machine::Answer;
 use machine::Length;
@@ -8,23 +10,23 @@ use machine::refusal;
 
 // Writes a fresh journal; or LENGTH or ROOM, and the journal as it stood.
 pub fn fresh(k: usize, journal: &mut [u8]) -> u8
-    ensures { λ r. ⌜ Freshened k (now (journal .entry)) r (now (journal .exit)) ⌝ }
+    ensures { λ r. ⌜ Freshened k firstVersion (now (journal .entry)) r (now (journal .exit)) ⌝ }
 {
     let length = machine::check_length(k);
     if length != refusal::DONE {
         return length;
     }
-    let room = entries::check_room(journal);
+    let room = entries::check_room_for(entries::FIRST_VERSION, journal.len());
     if room != refusal::DONE {
         return room;
     }
-    appends::put_fresh(k, journal);
+    appends::put_fresh(k, entries::FIRST_VERSION, journal);
     refusal::DONE
 }
 
 // The refusal of a step back: LENGTH, FILE, ROOM, JOURNAL, EMPTY or DONE.
 pub fn check_back(k: usize, z: &[u8], p: &[u8], journal: &[u8]) -> u8
-    ensures { λ r. ⌜ r ≡ backRefused k (state (now (z .entry)) (now (p .entry))) (now (journal .entry)) ⌝ }
+    ensures { λ r. ⌜ r ≡ backRefused k (buffersOf (state (now (z .entry)) (now (p .entry))) (now (journal .entry))) ⌝ }
 {
     let files = machine::check_files(k, z, p);
     if files != refusal::DONE {
@@ -42,7 +44,7 @@ pub fn check_back(k: usize, z: &[u8], p: &[u8], journal: &[u8]) -> u8
 
 // The refusal of a step before its word is read: LENGTH, FILE, PROGRAM, ROOM, JOURNAL, END or DONE.
 pub fn check_step(k: usize, z: &[u8], p: &[u8], program: &[u8], journal: &[u8]) -> u8
-    ensures { λ r. ⌜ r ≡ startRefused k (state (now (z .entry)) (now (p .entry))) (now (program .entry)) (now (journal .entry)) ⌝ }
+    ensures { λ r. ⌜ r ≡ startRefused k (now (program .entry)) (buffersOf (state (now (z .entry)) (now (p .entry))) (now (journal .entry))) ⌝ }
 {
     let files = machine::check_files(k, z, p);
     if files != refusal::DONE {

@@ -27,7 +27,7 @@ wrapped-sum D (z ∷ zs) = ap (λ (n : ℕ). (residue D z + n) % 2 ^ D) (wrapped
 pub residue-two : (D : ℕ) (x y : ℤ) → residue D (total (x ∷ y ∷ [])) ≡ (residue D x + residue D y) % 2 ^ D
 residue-two D x y = ap (λ (z : ℤ). residue D (x +ℤ z)) (+ℤ-idr y) ∙ residue-sum D x y
 
--- and of their difference
+-- the low digits of two integers' difference
 pub residue-less : (D : ℕ) (x y : ℤ) (r : ℕ) → r < 2 ^ D → (r + residue D y) % 2 ^ D ≡ residue D x → r ≡ residue D (total (x ∷ negℤ y ∷ []))
 residue-less D x y r below wraps = residue-difference D x y r below wraps ∙ ap (λ (z : ℤ). residue D (x +ℤ z)) (sym (+ℤ-idr (negℤ y)))
 
@@ -66,13 +66,13 @@ pub within-counted : (t signed : Bool) (w e : ℕ) (r : List ℕ) → AreBytes r
 within-counted true signed w e r h = within-integer signed (bitsOf w) (lane w e r) (lane-lt w e r h)
 within-counted false signed w e r h = within-zero signed (2 ^ bitsOf w)
 
--- it lies within a greater bound too
+-- an integer that lies within a bound lies within a greater one too
 pub within-more : (signed : Bool) (A B : ℕ) (z : ℤ) → A ≤ B → Within signed A z → Within signed B z
 within-more true A B z h w = omega arith
 within-more false A B (pos n) h w = omega arith
 within-more false A B (negsuc n) h w = absurd w
 
--- and read as signed, whatever its own sign is, so does what an element adds or takes away, with one digit more
+-- what an element adds or takes away, read as signed whatever its own sign is, lies within one digit more than it has
 pub within-signed : (t subtract signed : Bool) (w e : ℕ) (r : List ℕ) → AreBytes r
     → Within true (2 ^ (1 + bitsOf w)) (counted t (cond subtract (negℤ (element signed w r e)) (element signed w r e)))
 within-signed t subtract signed w e r h = rw (pow-add 2 1 (bitsOf w)) (go t subtract)
@@ -94,26 +94,26 @@ abbrev pub AllWithin : Bool → ℕ → List ℤ → Type 0
 AllWithin signed B [] = Unit {0}
 AllWithin signed B (z ∷ zs) = Within signed B z × AllWithin signed B zs
 
--- their exact sum lies within as many times B
+-- the exact sum of integers that lie within B lies within as many times B
 within-total : (signed : Bool) (B : ℕ) (zs : List ℤ) → AllWithin signed B zs → Within signed (length zs * B) (total zs)
 within-total signed B [] h = within-zero signed (0 * B)
 within-total signed B (z ∷ zs) h =
     rw (suc-mul (length zs) B, add-comm (length zs * B) B)
     (within-sum signed B (length zs * B) z (total zs) (h .0) (within-total signed B zs (h .1)))
 
--- where they are few enough, the low E digits of the sum, read at their sign, are the exact sum
+-- where integers are few enough, the low E digits of their sum, read at their sign, are the exact sum
 pub sum-is-exact : (signed : Bool) (B E : ℕ) (zs : List ℤ) → AllWithin signed B zs → length zs * B < 2 ^ E → integer signed E (residue E (total zs)) ≡ total zs
 sum-is-exact signed B E zs h few =
     integer-residue signed E (total zs) (within-fits signed (length zs * B) E (total zs) (within-total signed B zs h) few)
 
--- what does not count does not matter
+-- an element that is not counted does not matter
 pub same-counted : (s t : Bool) (x y : ℤ) → s ≡ t → (s ≡ true → x ≡ y) → counted s x ≡ counted t y
 same-counted true true x y e f = f refl
 same-counted true false x y e f = cc
 same-counted false true x y e f = cc
 same-counted false false x y e f = refl
 
--- as many as were asked for
+-- a list made of each number has as many as were asked for
 pub length-each : {X : Type 0} (f : ℕ → X) (e n : ℕ) → length (each f e n) ≡ n
 length-each f e zero = refl
 length-each f e (suc n) = ap suc (length-each f (suc e) n)

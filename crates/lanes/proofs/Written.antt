@@ -25,7 +25,7 @@ length-lanes w e (suc n) f =
     length-append (bytesOf w (f e)) (fromLanes w (suc e) n f)
     ∙ omega (arith, length-bytes w (f e), length-lanes w (suc e) n f, suc-mul n w)
 
--- one lane more
+-- lanes side by side, with one lane more
 pub lanes-snoc : (w e n : ℕ) (f : ℕ → ℕ) → fromLanes w e (suc n) f ≡ fromLanes w e n f ++ bytesOf w (f (e + n))
 lanes-snoc w e zero f = append-nil (bytesOf w (f e)) ∙ ap (λ (i : ℕ). bytesOf w (f i)) (sym (add-zero e))
 lanes-snoc w e (suc n) f =
@@ -113,11 +113,11 @@ same-lanes w e (suc n) f g h =
 abbrev pub Begun : ℕ → ℕ → ℕ → (ℕ → ℕ) → List ℕ → Type 0
 Begun size w e f buffer = buffer ≡ fromLanes w 0 e f ++ replicate (size - e * w) 0
 
--- before the first lane
+-- before the first lane the buffer is all zeros
 pub begun-none : (size w : ℕ) (f : ℕ → ℕ) → Begun size w 0 f (replicate size 0)
 begun-none size w f = rw (zero-mul w, sub-zero size)
 
--- one lane more
+-- with lane e written, the lanes below e + 1 are
 pub begun-next : (size w e v : ℕ) (f : ℕ → ℕ) (buffer : List ℕ) → bytesOf w v ≡ bytesOf w (f e) → Begun size w e f buffer
     → Begun size w (e + 1) f (withLane w e v buffer)
 begun-next size w e v f buffer same h =
@@ -125,14 +125,14 @@ begun-next size w e v f buffer same h =
     ∙ write-next w e v f (replicate (size - e * w) 0) same
     ∙ rw (add-one e, drop-replicate w (size - e * w) 0, suc-mul e w, sub-add-eq size (e * w) w)
 
--- the buffer keeps its size
+-- a buffer into which lanes are written keeps its size
 pub begun-length : (size w e : ℕ) (f : ℕ → ℕ) (buffer : List ℕ) → e * w ≤ size → Begun size w e f buffer → length buffer ≡ size
 begun-length size w e f buffer h begun =
     ap length begun
     ∙ length-append (fromLanes w 0 e f) (replicate (size - e * w) 0)
     ∙ omega (arith, length-lanes w 0 e f, length-replicate {A = ℕ} (size - e * w) 0)
 
--- after the last lane, where the lanes fill it
+-- after the last lane, where the lanes fill the buffer, it holds them side by side
 pub begun-all : (size w e n : ℕ) (f : ℕ → ℕ) (buffer : List ℕ) → e ≡ n → n * w ≡ size → Begun size w e f buffer → buffer ≡ fromLanes w 0 n f
 begun-all size w e n f buffer last fills begun =
     begun ∙ rw (last, fills, sub-self size) (append-nil (fromLanes w 0 n f))

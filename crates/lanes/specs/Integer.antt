@@ -6,7 +6,7 @@ use lib.IntN.{ℤ, pos, negsuc, subℕ}
 use Rattle.parts.specs.Part.{both}
 use Rattle.parts.specs.Number.{bitsOf}
 
--- the top of D digits is set
+-- whether the highest of D digits is set
 abbrev pub isNegative : ℕ → ℕ → Bool
 isNegative D n = leb (2 ^ D) (2 * n)
 

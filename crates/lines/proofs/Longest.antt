@@ -3,16 +3,16 @@
 use mathlib.Core.Path.{_≡_, refl}
 use mathlib.Core.List.{List}
 use Prim.Native.Nat.{ℕ, zero, suc, _+_, _≤_}
-use native.Mathlib.Nat.{min-le-left}
 use native.Mathlib.Omega.{arith}
-use lib.ListN.{length, length-append, length-take, drop}
+use lib.ListN.{length, length-append}
 use Rattle.machine.specs.Size.{vectorBytes, mostLength, mostWords}
 use Rattle.machine.specs.Refusal.{DONE}
-use Rattle.registers.specs.declared.Kind.the-variants.{Vector}
-use Rattle.registers.specs.Register.{registerAt, vectorOf}
-use Rattle.registers.specs.State.{State}
+use Rattle.registers.specs.State.{State, read}
+use Rattle.registers.proofs.Places.{bytes-most}
+use Rattle.registers.proofs.States.{read-most}
 use Rattle.programs.specs.Word.{wordAt}
 use Rattle.words.specs.Decode.{decoded, fieldsOf}
+use Rattle.meaning.specs.Execute.{targetOf}
 use Rattle.digits.specs.Digits.{decimalWidth}
 use Rattle.digits.proofs.Decimals.{digits-length, width-most, width-grows}
 use Rattle.names.specs.Named.{leastOut}
@@ -45,15 +45,10 @@ module _ (position : ℕ) (inside : position ≤ mostWords) where
     unfolding stepLine
     done-most =
         let word = wordAt program position in
-        let d = fieldsOf (decoded word) .d in
-        omega (
-          arith,
-          accepted-most word (vectorOf k d (s .z)),
-          length-take (vectorBytes k) (drop (registerAt k Vector d) (s .z)),
-          min-le-left (vectorBytes k) (length (drop (registerAt k Vector d) (s .z))),
-        )
+        let r = targetOf (fieldsOf (decoded word)) in
+        omega (arith, accepted-most word (read k r s), read-most k r s, bytes-most k (r .kind))
 
-    -- and no line is longer than the longest
+    -- no step's line is longer than the longest
     pub step-most : (number : ℕ) → k ≤ mostLength → length (stepLine k s program position number) ≤ mostLine
     step-most zero h = omega (arith, done-most)
     step-most (suc n) h =

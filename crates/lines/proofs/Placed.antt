@@ -13,8 +13,7 @@ use Rattle.machine.specs.Size.{mostWords, wordBytes, isProgram, Files}
 use Rattle.machine.specs.Refusal.{DONE, OUT, Test, outTest, first, refused, filesTests, onlyWhere}
 use Rattle.machine.proofs.Tests.{first-before, first-after, first-none, none-refused, refused-early, unless-refused}
 use Rattle.machine.proofs.Checks.{files-checked}
-use Rattle.registers.specs.Register.{vectorOf}
-use Rattle.registers.specs.State.{State}
+use Rattle.registers.specs.State.{State, read}
 use Rattle.programs.specs.declared.Next.{Next}
 use Rattle.programs.specs.Word.{wordAt, wordsOf, placeTests, wordFound, nextWord}
 use Rattle.programs.proofs.Words.{found-refused}
@@ -22,6 +21,7 @@ use Rattle.programs.proofs.Reading.{word-exactly}
 use Rattle.facts.specs.declared.Facts.{Facts}
 use Rattle.words.specs.Decode.{decoded, numberOf, wordTests}
 use Rattle.cores.specs.Core.{decodedOn}
+use Rattle.meaning.specs.Execute.{targetOf}
 use Rattle.words.specs.declared.Decoded.{Decoded}
 use Rattle.words.specs.declared.Fields.{Fields}
 use Rattle.words.specs.declared.Decoded.the-variants.{Unknown, Undefined, Word}
@@ -47,7 +47,7 @@ module _ (k : ℕ) (s : State) (program : List ℕ) (position n : ℕ) where
   abbrev found : ℕ → Next
   found r = wordFound r (wordAt program position) position
 
-  -- no word with a refusal
+  -- with a refusal no word is found
   none-found : (r m : ℕ) → r ≡ m → (r ≡ 0 → ⊥) → record { number = r; word = 0; at = position } ≡ found m
   none-found r m e h = sym (found-refused r (wordAt program position) position h) ∙ ap found e
 
@@ -63,7 +63,7 @@ module _ (k : ℕ) (s : State) (program : List ℕ) (position n : ℕ) where
         ∙ ap found
         (first-before places last (λ z. h (ap (λ (m : Next). m .number) e ∙ z)) ∙ sym (first-after files (first places last) tt files-right))
 
-    -- past them the output decides
+    -- where neither the files nor the place refuse, the output decides
     past : refused places ≡ 0 → refused (placedTests k s program position n) ≡ last
     past place-right = first-after files (first places last) tt files-right ∙ first-after places last tt place-right
 
@@ -141,7 +141,7 @@ module _ (k : ℕ) (s : State) (program : List ℕ) (position number word : ℕ)
   unfolding stepLine
   refused-line h = rw (← is) (unless-refused number (acceptedLine position word (destinationOf k word s)) (refusedLine position number word) h)
 
-  pub accepted-line : number ≡ DONE → (f : Fields) → decoded word ≡ Word f → (register : List ℕ) → register ≡ vectorOf k (f .d) (s .z)
+  pub accepted-line : number ≡ DONE → (f : Fields) → decoded word ≡ Word f → (register : List ℕ) → register ≡ read k (targetOf f) s
       → stepLine k s program position number ≡ acceptedLine position word register
   unfolding stepLine
   accepted-line done f accepted register shown = rw (done, ← is, accepted, shown)

@@ -9,13 +9,13 @@ use Rattle.parts.specs.Text.{bytes}
 use Rattle.machine.specs.Size.{mostLength, mostWords, vectorBytes}
 use Rattle.machine.specs.Refusal.{DONE, SESSION, Test, outTest, filesTests, onlyWhere, refused, unlessRefused, answer}
 use Rattle.machine.specs.declared.Answer.{Answer}
-use Rattle.registers.specs.Register.{vectorOf}
-use Rattle.registers.specs.State.{State}
+use Rattle.registers.specs.State.{State, read}
 use Rattle.programs.specs.Word.{wordAt, placeTests, wordFound}
 use Rattle.programs.specs.declared.Next.{Next}
 use Rattle.facts.specs.declared.Facts.{Facts}
 use Rattle.words.specs.Decode.{decoded, wordTests, fieldsOf}
 use Rattle.cores.specs.Core.{decodedOn}
+use Rattle.meaning.specs.Execute.{targetOf}
 use Rattle.digits.specs.Digits.{digitsIn, decimal, decimalWidth}
 use Rattle.names.specs.Named.{textOfWord, mostText}
 
@@ -45,17 +45,17 @@ withNewline field = field ++ 10 ∷ []
 abbrev pub lead : ℕ → ℕ → List ℕ
 lead position number = withSpace (decimal position) ++ withSpace (decimal number)
 
--- the line of a refused step: the word follows
+-- the line of a refused step: position and number, then the word
 abbrev pub refusedLine : ℕ → ℕ → ℕ → List ℕ
 refusedLine position number word = lead position number ++ withNewline (digitsIn sixteen wordHexDigits word)
 
--- the line of an accepted step: the word's text and the register follow
+-- the line of an accepted step: position and number, then the word's text and the register
 abbrev pub acceptedLine : ℕ → ℕ → List ℕ → List ℕ
 acceptedLine position word register = lead position DONE ++ withSpace (textOfWord word) ++ withNewline (hexOf register)
 
 -- the destination register of a word
 abbrev pub destinationOf : ℕ → ℕ → State → List ℕ
-destinationOf k word s = vectorOf k (fieldsOf (decoded word) .d) (s .z)
+destinationOf k word s = read k (targetOf (fieldsOf (decoded word))) s
 
 -- the line of the step at a position of a program, which answered this number and left this state
 unfoldable pub stepLine : ℕ → State → List ℕ → ℕ → ℕ → List ℕ
@@ -80,16 +80,16 @@ abbrev pub placedTests : ℕ → State → List ℕ → ℕ → ℕ → List Tes
 placedTests k s program position n =
     filesTests k (length (s .z)) (length (s .p)) ++ placeTests (length program) position ++ outTest (ltb n mostLine) ∷ []
 
--- the word that a line is asked of; with a refusal none
+-- the word that a line is asked of, or none where what it is asked of is refused
 abbrev pub askedWord : ℕ → State → List ℕ → ℕ → ℕ → Next
 askedWord k s program position n = wordFound (refused (placedTests k s program position n)) (wordAt program position) position
 
--- the tests of a line: those, and of a step that is told done its word's on the core
+-- the tests of a line: those of what it is asked of and, for a step that is told done, those of its word on the core
 abbrev pub lineTests : ℕ → Facts → State → List ℕ → ℕ → ℕ → ℕ → List Test
 lineTests k facts s program position number n =
     placedTests k s program position n ++ onlyWhere (eqb number DONE) (wordTests (decodedOn facts (wordAt program position)))
 
--- its refusal: LENGTH, FILE, PROGRAM, END, OUT, UNKNOWN, UNDEFINED or DONE
+-- the number that a line is answered with: LENGTH, FILE, PROGRAM, END, OUT, UNKNOWN, UNDEFINED or DONE
 unfoldable pub lineRefused : ℕ → Facts → State → List ℕ → ℕ → ℕ → ℕ → ℕ
 lineRefused k facts s program position number n = refused (lineTests k facts s program position number n)
 

@@ -12,8 +12,12 @@ use Rattle.names.proofs.Naming.{text-determined}
 use Rattle.assembles.specs.Assembled.{Assembled}
 use Rattle.assembles.proofs.Theorems.{assemble-determined}
 use Rattle.programs.specs.Word.{nextWord}
-use Rattle.journal.specs.Calls.{positionAnswer, Freshened, Stepped, Backed}
-use Rattle.journal.proofs.Answers.{fresh-determined, step-determined, back-determined}
+use Rattle.entries.specs.Layout.{firstVersion}
+use Rattle.journal.specs.Left.{coreOf, Buffers}
+use Rattle.journal.specs.Calls.{positionAnswer, Freshened}
+use Rattle.journal.proofs.Answers.{fresh-determined}
+use Rattle.steps.specs.Calls.{Stepped, Backed}
+use Rattle.steps.proofs.Answers.{step-determined, back-determined}
 use Rattle.session.specs.Layout.{sessionOf}
 use Rattle.lines.specs.Line.{LineWritten, stepLine}
 use Rattle.lines.proofs.Lines.{line-determined}
@@ -43,8 +47,9 @@ ln-read-word-determined program at = one-result (wordOut (nextWord program at))
 pub ln-read-session-determined : (bytes : List ℕ) (r q : LnSession) → SessionRead bytes r → SessionRead bytes q → r ≡ q
 ln-read-session-determined bytes = one-result (sessionOut (sessionOf bytes))
 
-pub ln-fresh-determined : (k : ℕ) (journal : List ℕ) (r q : ℕ) (a b : List ℕ) → Freshened k journal r a → Freshened k journal q b → (r ≡ q) × (a ≡ b)
-ln-fresh-determined = fresh-determined
+pub ln-fresh-determined : (k : ℕ) (journal : List ℕ) (r q : ℕ) (a b : List ℕ) → Freshened k firstVersion journal r a → Freshened k firstVersion journal q b
+    → (r ≡ q) × (a ≡ b)
+ln-fresh-determined k = fresh-determined k firstVersion
 
 pub ln-position-determined : (k : ℕ) (journal : List ℕ) (r q : LnAnswer) → PositionTold k journal r → PositionTold k journal q → r ≡ q
 ln-position-determined k journal = one-result (answerOut (positionAnswer k journal))
@@ -76,10 +81,11 @@ module _ (k : ℕ) (s : State) where
       let (answer, bytes) = line-determined _ (stepLine k s program position number) out a b (answerIn r) (answerIn q) x y in
       (ap answerOut answer, bytes)
 
-  pub ln-step-determined : (facts : ℕ) (program journal : List ℕ) (r q : ℕ) (a b : State) (i j : List ℕ) → Stepped k (factsOf facts) s program journal r a i → Stepped k (factsOf facts) s program journal q b j
-      → (r ≡ q) × (a ≡ b) × (i ≡ j)
-  ln-step-determined facts = step-determined k (factsOf facts) s
+pub ln-step-determined : (k facts : ℕ) (program : List ℕ) (b : Buffers) (r q : ℕ) (after other : Buffers)
+    → Stepped (coreOf k (factsOf facts)) program b r after
+    → Stepped (coreOf k (factsOf facts)) program b q other
+    → (r ≡ q) × (after ≡ other)
+ln-step-determined k facts = step-determined (coreOf k (factsOf facts))
 
-  pub ln-back-determined : (journal : List ℕ) (r q : ℕ) (a b : State) (i j : List ℕ) → Backed k s journal r a i → Backed k s journal q b j
-      → (r ≡ q) × (a ≡ b) × (i ≡ j)
-  ln-back-determined = back-determined k s
+pub ln-back-determined : (k : ℕ) (b : Buffers) (r q : ℕ) (after other : Buffers) → Backed k b r after → Backed k b q other → (r ≡ q) × (after ≡ other)
+ln-back-determined = back-determined

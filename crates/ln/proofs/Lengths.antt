@@ -2,7 +2,7 @@
 -- lent, and bytes that name it are no session.
 -- Assumes nothing.
 use Prim.Native.Nat.{ℕ}
-use mathlib.Core.Path.{_≡_}
+use mathlib.Core.Path.{_≡_, _∙_}
 use mathlib.Core.Logic.{⊎-elim}
 use mathlib.Core.List.{List}
 use Rattle.machine.specs.Size.{Legal}
@@ -14,14 +14,18 @@ use Rattle.registers.specs.declared.Kind.{Kind}
 use Rattle.pane.specs.Drawn.{registerRefused}
 use Rattle.totals.specs.Calls.{panelRefused, subtotalRefused}
 use Rattle.totals.specs.Written.{panelWrittenRefused}
-use Rattle.journal.specs.Calls.{freshRefused, stepRefused, backRefused, positionRefused}
+use Rattle.journal.specs.Left.{coreOf, Buffers}
+use Rattle.journal.specs.Calls.{freshened, positionRefused}
+use Rattle.steps.specs.Calls.{stepped, backed}
+use Rattle.steps.proofs.Accepted.{step-number, back-tests}
+use Rattle.journal.proofs.Accepted.{fresh-number}
 use Rattle.lines.specs.Line.{lineRefused}
 use Rattle.session.specs.Layout.{sessionLength, sessionOf}
 use Rattle.session.proofs.Reading.{session-exactly}
 
 module _ (k : ℕ) (none : Legal k → ⊥) where
-  pub fresh-length : (journal : List ℕ) → freshRefused k journal ≡ LENGTH
-  fresh-length journal = rw (illegal k none)
+  pub fresh-length : (version : ℕ) (journal : List ℕ) → freshened k version journal .number ≡ LENGTH
+  fresh-length version journal = fresh-number k version journal ∙ rw (illegal k none)
 
   pub position-length : (journal : List ℕ) → positionRefused k journal ≡ LENGTH
   unfolding positionRefused
@@ -39,13 +43,11 @@ module _ (k : ℕ) (none : Legal k → ⊥) where
   pub subtotal-length : (z p : List ℕ) (source governing size a b : ℕ) → subtotalRefused k z p source governing size a b ≡ LENGTH
   subtotal-length z p source governing size a b = rw (illegal k none)
 
-  pub step-length : (facts : Facts) (s : State) (program journal : List ℕ) → stepRefused k facts s program journal ≡ LENGTH
-  unfolding stepRefused
-  step-length facts s program journal = rw (illegal k none)
+  pub step-length : (facts : Facts) (program : List ℕ) (b : Buffers) → stepped (coreOf k facts) program b .number ≡ LENGTH
+  step-length facts program b = step-number (coreOf k facts) program b ∙ rw (illegal k none)
 
-  pub back-length : (s : State) (journal : List ℕ) → backRefused k s journal ≡ LENGTH
-  unfolding backRefused
-  back-length s journal = rw (illegal k none)
+  pub back-length : (b : Buffers) → backed k b .number ≡ LENGTH
+  back-length b = back-tests k b ∙ rw (illegal k none)
 
   pub line-length : (facts : Facts) (s : State) (program : List ℕ) (position number n : ℕ) → lineRefused k facts s program position number n ≡ LENGTH
   unfolding lineRefused

@@ -8,7 +8,10 @@ ghost use Rattle.facts.specs.Facts.{factsOf};
 ghost use Rattle.words.specs.Decode.{noFields};
 ghost use Rattle.names.specs.Named.{Named};
 ghost use Rattle.assembles.specs.Assembled.{Assembled};
-ghost use Rattle.journal.specs.Calls.{Freshened, Stepped, Backed};
+ghost use Rattle.entries.specs.Layout.{firstVersion};
+ghost use Rattle.journal.specs.Left.{coreOf, buffersOf};
+ghost use Rattle.journal.specs.Calls.{Freshened};
+ghost use Rattle.steps.specs.Calls.{Stepped, Backed};
 ghost use Rattle.lines.specs.Line.{LineWritten};
 ghost use Rattle.ln.specs.Posts.{WordDecoded, WordRead, SessionRead, RegisterPlaced, Subtotalled, PositionTold};
 ghost use Rattle.totals.specs.Written.{PanelWritten};
@@ -205,7 +208,7 @@ pub extern "C" fn ln_write_line(
 // A fresh journal of the lent size, or LENGTH or ROOM.
 #[no_mangle]
 pub extern "C" fn ln_fresh(k: usize, journal: &mut [u8]) -> u64
-    ensures { λ r. ⌜ Freshened k (now (journal .entry)) r (now (journal .exit)) ⌝ }
+    ensures { λ r. ⌜ Freshened k firstVersion (now (journal .entry)) r (now (journal .exit)) ⌝ }
 {
     journal::fresh(k, journal) as u64
 }
@@ -220,8 +223,8 @@ pub extern "C" fn ln_step(
     program: &[u8],
     journal: &mut [u8],
 ) -> u64
-    ensures { λ r. ⌜ Stepped k (factsOf facts) (state (now (z .entry)) (now (p .entry))) (now (program .entry)) (now (journal .entry)) r
-        (state (now (z .exit)) (now (p .entry))) (now (journal .exit)) ⌝ }
+    ensures { λ r. ⌜ Stepped (coreOf k (factsOf facts)) (now (program .entry)) (buffersOf (state (now (z .entry)) (now (p .entry))) (now (journal .entry))) r
+        (buffersOf (state (now (z .exit)) (now (p .entry))) (now (journal .exit))) ⌝ }
 {
     steps::step(k, facts::facts_of(facts), z, p, program, journal) as u64
 }
@@ -229,7 +232,7 @@ pub extern "C" fn ln_step(
 // Takes the last step back, or LENGTH, FILE, ROOM, JOURNAL or EMPTY.
 #[no_mangle]
 pub extern "C" fn ln_back(k: usize, z: &mut [u8], p: &[u8], journal: &mut [u8]) -> u64
-    ensures { λ r. ⌜ Backed k (state (now (z .entry)) (now (p .entry))) (now (journal .entry)) r (state (now (z .exit)) (now (p .entry))) (now (journal .exit)) ⌝ }
+    ensures { λ r. ⌜ Backed k (buffersOf (state (now (z .entry)) (now (p .entry))) (now (journal .entry))) r (buffersOf (state (now (z .exit)) (now (p .entry))) (now (journal .exit))) ⌝ }
 {
     steps::back(k, z, p, journal) as u64
 }

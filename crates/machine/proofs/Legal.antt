@@ -11,13 +11,13 @@ use native.Mathlib.Omega.{arith}
 use borrow.Author.Tests.{eqb-true, eq-eqb, ne-eqb}
 use Rattle.machine.specs.Size.{mostLength, lengths, isAmong, isLegal, Legal}
 
--- one of some numbers, as the arm of a `match` tells it
+-- a number is one of some, as the arm of a `match` tells it
 abbrev pub Among : ℕ → List ℕ → Type 0
 Among n [] = ⊥
 Among n (m ∷ []) = n ≡ m
 Among n (m ∷ l ∷ ms) = (n ≡ m) ⊎ Among n (l ∷ ms)
 
--- the test tells it: where it is so, and where it is not
+-- the test whether a number is one of some tells it: where it is, and where it is not
 pub among-true : (n : ℕ) (ms : List ℕ) → Among n ms → isAmong n ms ≡ true
 among-true n [] h = absurd h
 among-true n (m ∷ []) e = rw (eq-eqb n m e)
@@ -47,12 +47,12 @@ among-given n (m ∷ l ∷ ms) e = first (eqb n m) refl e (among-given n (l ∷ 
     first true is e later = inl (eqb-true n m is)
     first false is e later = inr (later e)
 
--- a power with an exponent of at most 4 lies between the least and the most
+-- a power of two with an exponent of at most 4 lies between the least length and the most
 powered : (k e : ℕ) → e ≤ 4 → k ≡ 2 ^ e → Legal k
 powered k e few power =
     record { exponent = e; power = power; least = rw power (pow-pos e); most = rw power (pow-mono few) }
 
--- and one that is at most the most is among the lengths
+-- a power of two that is at most the most length is among the lengths
 small : (e : ℕ) → 2 ^ e ≤ mostLength → isLegal (2 ^ e) ≡ true
 small zero h = refl
 small (suc zero) h = refl
@@ -72,7 +72,7 @@ legal-exactly k = (λ e. power (among-given k lengths e), λ l. rw (l .power) (s
     power (inr (inr (inr (inl e)))) = powered k 3 (omega arith) e
     power (inr (inr (inr (inr e)))) = powered k 4 (omega arith) e
 
--- what is none is not legal
+-- what is no power of two from the least to the most is not legal
 pub illegal : (k : ℕ) → (Legal k → ⊥) → isLegal k ≡ false
 illegal k none = told (isLegal k) refl
   where

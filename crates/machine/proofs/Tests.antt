@@ -16,21 +16,21 @@ Refuse [] = Unit {0}
 Refuse ((p, zero, b) ∷ ts) = ⊥
 Refuse ((p, suc n, b) ∷ ts) = Refuse ts
 
--- no refusal: no test holds
+-- where tests do not refuse, none of them holds
 pub first-none : (ts : List Test) → Refuse ts → refused ts ≡ DONE → None ts
 first-none [] ok e = tt
 first-none ((p, zero, b) ∷ ts) ok e = absurd ok
 first-none ((p, suc n, true) ∷ ts) ok e = absurd (omega arith)
 first-none ((p, suc n, false) ∷ ts) ok e = (refl, first-none ts ok e)
 
--- no refusal by the tests before: what comes after decides
+-- where the tests before do not refuse, what comes after them decides
 pub first-after : (ts : List Test) (after : ℕ) → Refuse ts → refused ts ≡ DONE → first ts after ≡ after
 first-after [] after ok e = refl
 first-after ((p, zero, b) ∷ ts) after ok e = absurd ok
 first-after ((p, suc n, true) ∷ ts) after ok e = cc
 first-after ((p, suc n, false) ∷ ts) after ok e = first-after ts after ok e
 
--- a refusal by the tests before: what comes after does not matter
+-- where the tests before refuse, what comes after them does not matter
 pub first-before : (ts : List Test) (after : ℕ) → (refused ts ≡ DONE → ⊥) → refused ts ≡ first ts after
 first-before [] after h = absurd (h refl)
 first-before ((p, n, true) ∷ ts) after h = refl
@@ -52,37 +52,37 @@ first-exactly ts n = (comes ts, given ts)
     given ((p, m, false) ∷ ts) (inl h) = cc (h .0)
     given ((p, m, false) ∷ ts) (inr h) = given ts (h .1)
 
--- with a refusal, what is answered with a refusal
+-- of two things, with a refusal it is the second
 pub unless-refused : {X : Type 0} (n : ℕ) (done other : X) → (n ≡ DONE → ⊥) → unlessRefused n done other ≡ other
 unless-refused zero done other h = absurd (h refl)
 unless-refused (suc n) done other h = refl
 
 -- checks in sequence: a check that makes the first tests answers their refusal
 module _ (tests : List Test) (ok : Refuse tests) (after r : ℕ) (answers : r ≡ refused tests) where
-  -- a check that refuses: the call's refusal
+  -- the number of a check that refuses is the call's
   pub refused-early : (r ≡ 0 → ⊥) → r ≡ first tests after
   refused-early h = answers ∙ first-before tests after (λ e. h (answers ∙ e))
 
-  -- a check that does not: the tests after it decide
+  -- past a check that does not refuse, the tests after it decide
   pub refused-later : r ≡ 0 → first tests after ≡ after
   refused-later h = first-after tests after ok (sym answers ∙ h)
 
--- no refusal: none by the tests before, and none after
+-- where a call does not refuse, neither do the tests before nor those after
 pub none-refused : (tests : List Test) → Refuse tests → (after : ℕ) → first tests after ≡ 0 → (refused tests ≡ 0) × (after ≡ 0)
 none-refused [] ok after e = (refl, e)
 none-refused ((p, zero, b) ∷ tests) ok after e = absurd ok
 none-refused ((p, suc n, true) ∷ tests) ok after e = absurd (omega arith)
 none-refused ((p, suc n, false) ∷ tests) ok after e = none-refused tests ok after e
 
--- what a buffer holds with a refusal
+-- with a refusal a buffer holds what stood in it
 pub kept : {X : Type 0} (n r : ℕ) (done stood : X) → r ≡ n → (r ≡ 0 → ⊥) → stood ≡ unlessRefused n done stood
 kept n r done stood e h = sym (unless-refused n done stood (λ z. h (e ∙ z)))
 
--- and what it holds with none
+-- without a refusal a buffer holds what the call makes
 pub left : {X : Type 0} (n : ℕ) (done stood : X) → n ≡ 0 → done ≡ unlessRefused n done stood
 left n done stood e = rw e
 
--- an answer with a refusal has 0, and one without has the value
+-- an answer has the value 0 with a refusal, and the call's own without
 pub refused-answer : (m n v : ℕ) → m ≡ n → (m ≡ DONE → ⊥) → _≡_ {A = Answer} (record { number = m; value = 0 }) (answer n v)
 refused-answer m zero v e h = absurd (h e)
 refused-answer m (suc n) v e h = ap (λ (i : ℕ). record { number = i; value = 0 }) e

@@ -67,7 +67,7 @@ testAt place n given = (place, n, given)
 abbrev pub test : ℕ → Bool → Test
 test n given = testAt (10 * n) n given
 
--- but OUT is tested before UNKNOWN and UNDEFINED
+-- the test of an output that is too short: OUT has a place before UNKNOWN and UNDEFINED
 abbrev pub outTest : Bool → Test
 outTest short = testAt (10 * END + 5) OUT short
 
@@ -86,12 +86,12 @@ first (t ∷ ts) after = cond (t .2) (t .1) (first ts after)
 abbrev pub refused : List Test → ℕ
 refused ts = first ts DONE
 
--- no case is given
+-- of no test is the case given
 abbrev pub None : List Test → Type 0
 None [] = Unit {0}
 None (t ∷ ts) = (t .2 ≡ false) × None ts
 
--- the case of this number is given, and none before it
+-- of some tests, the case of one with this number is given, and of none before it
 abbrev pub First : List Test → ℕ → Type 0
 First [] n = ⊥
 First (t ∷ ts) n = ((t .2 ≡ true) × (t .1 ≡ n)) ⊎ ((t .2 ≡ false) × First ts n)
@@ -101,23 +101,23 @@ abbrev pub onlyWhere : Bool → List Test → List Test
 onlyWhere b [] = []
 onlyWhere b (t ∷ ts) = testAt (t .0) (t .1) (both b (t .2)) ∷ onlyWhere b ts
 
--- k is no legal length
+-- the test of a length: k is no legal one
 abbrev pub lengthTests : ℕ → List Test
 lengthTests k = test LENGTH (not (isLegal k)) ∷ []
 
--- nor are the files' sizes those of the length k
+-- the tests of a length and of both files: k is no legal length, or the files' sizes z and p are not those of k
 abbrev pub filesTests : ℕ → ℕ → ℕ → List Test
 filesTests k z p = lengthTests k ++ test FILE (not (both (eqb z (vectorFile k)) (eqb p (predicateFile k)))) ∷ []
 
--- the program's size is not whole words, or they are too many
+-- the test of a program: its n bytes are not whole words, or too many
 abbrev pub programTests : ℕ → List Test
 programTests n = test PROGRAM (not (isProgram n)) ∷ []
 
--- a number is out of its range
+-- the test of a number or of a range: it is outside what there is
 abbrev pub rangeTest : Bool → Test
 rangeTest outside = test RANGE outside
 
--- the first where nothing refuses, the second with a refusal
+-- of two things, the first where the number is DONE, the second where it is a refusal's
 abbrev pub unlessRefused : {X : Type 0} → ℕ → X → X → X
 unlessRefused zero done other = done
 unlessRefused (suc n) done other = other

@@ -28,19 +28,19 @@ governing = 8
 abbrev pub sizes : ℕ
 sizes = 4
 
--- one of some numbers
+-- whether a number is one of some numbers
 abbrev pub isAmong : ℕ → List ℕ → Bool
 isAmong n [] = false
 isAmong n (m ∷ ms) = cond (eqb n m) true (isAmong n ms)
 
--- a length that the machine may have: 1, 2, 4, 8 or 16
+-- the lengths that the machine may have, and whether k is one of them
 abbrev pub lengths : List ℕ
 lengths = leastLength ∷ 2 ∷ 4 ∷ 8 ∷ mostLength ∷ []
 
 abbrev pub isLegal : ℕ → Bool
 isLegal k = isAmong k lengths
 
--- such a length in the manual's words: a power of two from the least to the most
+-- a legal length in the manual's words: a power of two from the least to the most
 pub record Legal (k : ℕ) : Type 0 where
   pub exponent : ℕ
   pub power : k ≡ 2 ^ exponent
@@ -75,7 +75,7 @@ wordBytes = 4
 abbrev pub mostWords : ℕ
 mostWords = 256
 
--- bytes that are whole words, not too many
+-- n bytes are a program's: whole words, and not more than the most
 abbrev pub isProgram : ℕ → Bool
 isProgram n = both (eqb (n % wordBytes) 0) (leb n (wordBytes * mostWords))
 

@@ -5,8 +5,8 @@ use mathlib.Core.List.{List, [], _∷_, _++_}
 use lib.Dec.{eqb}
 use lib.ListN.{take, replicate}
 use Rattle.machine.specs.Size.{vectors, predicates, vectorBytes, predicateBytes}
+use Rattle.registers.specs.Register.{vector}
 use Rattle.registers.specs.State.{state, read}
-use Rattle.registers.specs.declared.Kind.the-variants.{Vector}
 use Rattle.machine.specs.Refusal.{DONE, UNDEFINED, unlessRefused}
 use Rattle.parts.specs.Number.{number, bytesOf}
 use Rattle.parts.specs.Text.{bytes}
@@ -48,7 +48,7 @@ outcome c =
     let s = state (fileFrom 0 vectors (vectorBytes (c .k)) (c .vectorsHold)) (fileFrom 0 predicates (predicateBytes (c .k)) (c .predicatesHold)) in
     let f = fieldsOf (decoded (c .word)) in
     let n = numberOf (decoded (c .word)) in
-    (n, unlessRefused n (number (read (c .k) Vector (f .d) (executed f (c .k) s))) 0, unlessRefused n (textOfWord (c .word)) [])
+    (n, unlessRefused n (number (read (c .k) (vector (f .d)) (executed f (c .k) s))) 0, unlessRefused n (textOfWord (c .word)) [])
 
 abbrev pub expected : Case → Outcome
 expected c = (c .answer, c .destination, c .text)

@@ -1,4 +1,4 @@
-pub mod Padded
 pub mod Sizes
+pub mod Effects
 pub mod Summed
 pub mod LowWritten

@@ -24,11 +24,12 @@ use Rattle.rows.specs.declared.LowFamily.the-variants.{Reduction, Segment, Long
 use Rattle.sums.specs.Sums.{laneSum}
 use Rattle.sums.specs.Panel.{perSegment, columnElement, columnSum}
 use Rattle.sums.proofs.Widths.{width-legal}
-use Rattle.meaning.specs.Terms.{sumOf, reductionTerms, segmentTerms, longTerms, dataBytes}
+use Rattle.meaning.specs.Terms.{Operand1, sumOf, reductionTerms, segmentTerms, longTerms, dataBytes}
 use Rattle.meaning.specs.Execute.{operandsOf, maskOf, writtenFor}
 use Rattle.meaning.specs.Needs.{Executable}
-use Rattle.meaning.proofs.Padded.{padded-full}
-use Rattle.meaning.proofs.Sizes.{vector-length, low-most}
+use Rattle.registers.proofs.Padded.{padded-full}
+use Rattle.meaning.proofs.Sizes.{low-most}
+use Rattle.meaning.proofs.Effects.{operand-length}
 use Rattle.meaning.proofs.Summed.{reduction-sum, segment-sum, long-sum, one-lane}
 
 module _ (f : Fields) (k : ℕ) (s : State) (x : Executable f k s) where
@@ -46,7 +47,7 @@ module _ (f : Fields) (k : ℕ) (s : State) (x : Executable f k s) where
   source = operandsOf f k s .operand1
 
   sized : length source ≡ vectorBytes k
-  sized = vector-length f k s x (f .n) (x .fields .n)
+  sized = operand-length f k s x Operand1
 
   -- the sum of the active lanes of all the source, in eight bytes
   pub written-reduction : (ps : Parameters) → ps ≡ formOf (f .row) .parameters → familyOf (f .row) ≡ Low Reduction

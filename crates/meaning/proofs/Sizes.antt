@@ -30,7 +30,7 @@ use Rattle.sums.proofs.Widths.{width-legal}
 use Rattle.meaning.specs.Meaning.{lowWidth, widthAfter, lowLanes, lanesAfter}
 use Rattle.meaning.specs.Execute.{widthFor, lanesFor, writtenFor, destinationAfter}
 use Rattle.meaning.specs.Needs.{Executable}
-use Rattle.meaning.proofs.Padded.{length-padded}
+use Rattle.registers.proofs.Padded.{length-padded}
 
 pub false-not-true : false ≡ true → ⊥
 false-not-true e = let z : _≡_ {A = ℕ} 0 1 = cc in omega arith

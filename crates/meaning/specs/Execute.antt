@@ -4,34 +4,47 @@ use mathlib.Core.List.{List}
 use lib.IntN.{ℤ}
 use Rattle.machine.specs.Size.{vectorBytes}
 use Rattle.parts.specs.Number.{withNumber}
-use Rattle.registers.specs.Register.{registerAt, padded}
-use Rattle.registers.specs.declared.Kind.the-variants.{Vector, Predicate}
+use Rattle.registers.specs.Register.{Register, vector, predicate, registerAt, padded}
+use Rattle.registers.specs.declared.Kind.the-variants.{Vector}
 use Rattle.registers.specs.State.{State, read, write}
 use Rattle.lanes.specs.Lane.{widthOf}
 use Rattle.lanes.specs.Integer.{residue}
 use Rattle.rows.specs.Table.{formOf, familyOf}
 use Rattle.words.specs.declared.Fields.{Fields}
-use Rattle.meaning.specs.Terms.{Operands, Term, sumOf}
+use Rattle.meaning.specs.Terms.{Operands, Source, Operand1, Operand2, Old, Term, sumOf}
 use Rattle.meaning.specs.Meaning.{familyTerms, widthAfter, lanesAfter, familyWritten}
 
--- the registers that a word names
+-- the register that a word writes
+unfoldable pub targetOf : Fields → Register
+targetOf f = vector (f .d)
+
+-- the register that an operand is
+unfoldable pub sourceOf : Fields → Source → Register
+sourceOf f Operand1 = vector (f .n)
+sourceOf f Operand2 = vector (f .m)
+sourceOf f Old = vector (f .d)
+
+-- the predicate that governs a word
+unfoldable pub governingOf : Fields → Register
+governingOf f = predicate (f .g)
+
+-- what these registers hold
 abbrev pub operandsOf : Fields → ℕ → State → Operands
 operandsOf f k s = record {
-  operand1 = read k Vector (f .n) s;
-  operand2 = read k Vector (f .m) s;
-  old = read k Vector (f .d) s;
+  operand1 = read k (sourceOf f Operand1) s;
+  operand2 = read k (sourceOf f Operand2) s;
+  old = read k (sourceOf f Old) s;
 }
 
 abbrev pub maskOf : Fields → ℕ → State → List ℕ
-maskOf f k s = read k Predicate (f .g) s
+maskOf f k s = read k (governingOf f) s
 
--- what feeds lane e of its destination, and the exact integer that this makes
-abbrev pub feeds : Fields → ℕ → State → ℕ → List Term
-feeds f k s e =
-    familyTerms (familyOf (f .row)) (formOf (f .row) .parameters) (widthOf (f .size)) (f .q) (vectorBytes k) (maskOf f k s) e
+-- what feeds lane e of its destination under a mask, and the exact integer that this makes
+abbrev pub feeds : Fields → ℕ → List ℕ → ℕ → List Term
+feeds f k mask e = familyTerms (familyOf (f .row)) (formOf (f .row) .parameters) (widthOf (f .size)) (f .q) (vectorBytes k) mask e
 
 abbrev pub integerAfter : Fields → ℕ → State → ℕ → ℤ
-integerAfter f k s e = sumOf (operandsOf f k s) (feeds f k s e)
+integerAfter f k s e = sumOf (operandsOf f k s) (feeds f k (maskOf f k s) e)
 
 -- the bytes of each lane that it writes, and how many lanes that are
 abbrev pub widthFor : Fields → ℕ
@@ -40,17 +53,30 @@ widthFor f = widthAfter (familyOf (f .row)) (widthOf (f .size))
 abbrev pub lanesFor : Fields → ℕ → ℕ
 lanesFor f k = lanesAfter (familyOf (f .row)) (widthOf (f .size)) (vectorBytes k)
 
--- what it writes
+-- the bytes of these lanes
 abbrev pub writtenFor : Fields → ℕ → State → List ℕ
-writtenFor f k s = familyWritten (familyOf (f .row)) (widthOf (f .size)) (vectorBytes k) (operandsOf f k s) (feeds f k s)
+writtenFor f k s = familyWritten (familyOf (f .row)) (widthOf (f .size)) (vectorBytes k) (operandsOf f k s) (feeds f k (maskOf f k s))
 
--- the new bytes of its destination: what it writes, and zeros above
+-- the new bytes of its destination: these, and zeros above
 abbrev pub destinationAfter : Fields → ℕ → State → List ℕ
 destinationAfter f k s = padded (vectorBytes k) (writtenFor f k s)
 
+-- what is written: a register, and its new bytes
+pub record Effect : Type 0 where
+  pub target : Register
+  pub bytes : List ℕ
+
+-- what a word writes
+unfoldable pub effectOf : Fields → ℕ → State → Effect
+effectOf f k s = record { target = targetOf f; bytes = destinationAfter f k s }
+
+-- the state with that written
+abbrev pub effected : ℕ → Effect → State → State
+effected k effect s = write k (effect .target) (effect .bytes) s
+
 -- the state after a word: its destination register is written, all else stays
 abbrev pub executed : Fields → ℕ → State → State
-executed f k s = write k Vector (f .d) (destinationAfter f k s) s
+executed f k s = effected k (effectOf f k s) s
 
 -- the vector file with lane e of its destination written, from the registers as they stand
 abbrev pub laneWritten : Fields → ℕ → ℕ → State → List ℕ

@@ -19,7 +19,7 @@ use Rattle.rows.proofs.Every.{every, at-each}
 use Rattle.rows.proofs.Rows.{at-any, row-read}
 use Rattle.names.specs.Text.{keyOf, nameOf, keys, keyFrom, rowNamed}
 
--- a row's name and its space, by its six bytes: they have the space, or it still comes
+-- a row's name with its space, from its six bytes: these where they have the space, else these and a space
 abbrev pub closed : ℕ → List ℕ
 closed row = cond (eqb (getD (keyOf row) 5 0) 32) (keyOf row) (keyOf row ++ bytes " ")
 
@@ -77,7 +77,7 @@ key-at : (row : ℕ) → row < rows → getD keys row [] ≡ keyOf row
 unfolding keyOf rowAt
 key-at row h = at-any keys row [] (noRow .0) h ∙ List·getD-map (λ (r : Row). r .0) table row noRow
 
--- the search from a row on, at the row
+-- the search among the keys from a row on stops there or goes on at the next
 key-step : (i : ℕ) (bytes : List ℕ) → i < rows
     → keyFrom i (drop i keys) bytes ≡ cond (sameBytes (keyOf i) bytes) i (keyFrom (i + 1) (drop (i + 1) keys) bytes)
 unfolding keyFrom

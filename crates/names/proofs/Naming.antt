@@ -90,7 +90,7 @@ done-accepted word facts old new r named done = go (ltb (length old) leastOut) r
         let long = ltb-false (length old) leastOut e in
         (long, sym (number-of (length old) word facts long) ∙ none)
 
--- and then the text stands at the front
+-- for an accepted word and an output that is long enough the text stands at the front
 pub accepted-named : (word : ℕ) (facts : Facts) (old new : List ℕ) (r : Answer) → Named word facts old new r → leastOut ≤ length old → numberOf (decodedOn facts word) ≡ DONE
     → (r .number ≡ DONE) × (take (r .value) new ≡ textOfWord word)
 accepted-named word facts old new r named long accepted =
@@ -101,7 +101,7 @@ accepted-named word facts old new r named long accepted =
       rw (laid-out, is) (take-at (textOfWord word) _ (length (textOfWord word)) refl),
     )
 
--- the length that is answered
+-- the length that is answered is at most that of the longest text
 answer-most : (n v : ℕ) → answer n v .value ≤ v
 answer-most zero v = omega arith
 answer-most (suc n) v = omega arith

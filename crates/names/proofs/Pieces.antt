@@ -138,7 +138,7 @@ module _ (f : Fields) (form : Form) (is : form ≡ formOf (f .row)) (o : Operand
     pub room-one : 0 + length (front f o) ≤ room
     room-one = room-first 0 (front f o) (further (governingDigits (form .family)) (governingOperand (form .family) f)) (room-two _ _ refl refl)
 
--- so has a word's, whatever the word is
+-- the text of any word has at most the bytes of the longest
 pub word-length : (word : ℕ) → length (textOfWord word) ≤ mostText
 word-length word = go (decoded word) refl
   where
@@ -147,7 +147,7 @@ word-length word = go (decoded word) refl
     go Undefined e = omega arith
     go (Word f) e = text-length f (decoded-in-range word f e)
 
--- and one has as many
+-- there is a text with as many bytes as the longest may have
 pub longest-text : textOfWord 0x45DF03FF ≡ bytes "saddlb z31.d, z31.s, z31.s"
 unfolding decoded rowAt rowOf placeFrom matches digitsAnd textOf keyOf nameOf digitOf digitsIn widthWithin decimalWidth letterOf
 longest-text = refl

@@ -35,11 +35,11 @@ mostText = 26
 abbrev pub nameTests : ℕ → ℕ → Facts → List Test
 nameTests n word facts = outTest (ltb n leastOut) ∷ wordTests (decodedOn facts word)
 
--- its refusal: OUT, UNKNOWN, UNDEFINED or DONE
+-- the number that naming a word into n bytes answers: OUT, UNKNOWN, UNDEFINED or DONE
 abbrev pub nameRefused : ℕ → ℕ → Facts → ℕ
 nameRefused n word facts = refused (nameTests n word facts)
 
--- what is written: the text where naming is done, else nothing
+-- what naming a word writes: the text where it is done, else nothing
 abbrev pub nameWritten : ℕ → ℕ → Facts → List ℕ
 nameWritten n word facts = unlessRefused (nameRefused n word facts) (textOfWord word) []
 

@@ -20,7 +20,7 @@ use Rattle.operands.specs.Operands.{operandText, destinationOperand, governingO
 unfoldable pub keyOf : ℕ → List ℕ
 keyOf row = rowAt row .0
 
--- bytes that are those, six of them
+-- six bytes that are the first of a text of a row
 pub record Key (row : ℕ) (r : List ℕ) : Type 0 where
   pub is : r ≡ keyOf row
   pub size : nameBytes ≡ length r
@@ -34,7 +34,7 @@ upToSpace (b ∷ l) = cond (eqb b (code " ")) [] (b ∷ upToSpace l)
 unfoldable pub nameOf : ℕ → List ℕ
 nameOf row = upToSpace (keyOf row)
 
--- the place of the first key that these bytes are, counted from i; past the last where none is
+-- every row's first six bytes, its key; and the place of the first key that some bytes are, counted from i, past the last where none is
 abbrev pub keys : List (List ℕ)
 keys = map (λ (r : Row). r .0) table
 

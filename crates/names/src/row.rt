@@ -18,7 +18,7 @@ pub fn key_of(row: usize) -> [u8; NAME]
     entry.0
 }
 
-// Whether the first six bytes are those of a line of the table.
+// Whether a text's first six bytes are those of a line of the table.
 fn is_named(text: &[u8], line: Row) -> bool
     requires { ⌜ nameBytes ≡ length (line .0) ⌝ }
     ensures { λ r. ⌜ r ≡ sameBytes (line .0) (take nameBytes (now (text .entry))) ⌝ }
@@ -30,7 +30,7 @@ fn is_named(text: &[u8], line: Row) -> bool
     check::same(&key, &text[..NAME])
 }
 
-// The row that the first six bytes name, or the number of rows.
+// The row that a text's first six bytes name, or the number of rows where they name none.
 pub fn row_named(text: &[u8]) -> usize
     ensures { λ r. ⌜ r ≡ rowNamed (now (text .entry)) ⌝ }
 {

@@ -33,26 +33,26 @@ suffixText (Lane size) = code "." ∷ letterOf size ∷ []
 suffixText (Lanes count size) = code "." ∷ decimal count ++ letterOf size ∷ []
 suffixText Merging = bytes "/m"
 
--- a register: its letter, its number, and what follows
+-- an operand: a register's letter, its number, and what follows; and how it reads
 abbrev pub operand : ℕ → ℕ → Suffix → Operand
 operand l n s = record { letter = l; number = n; suffix = s }
 
 abbrev pub operandText : Operand → List ℕ
 operandText o = o .letter ∷ decimal (o .number) ++ suffixText (o .suffix)
 
--- the destination
+-- the destination of a word of a family
 abbrev pub destinationOperand : Family → Fields → Operand
 destinationOperand (Low Reduction) f = operand (code "d") (f .d) Plain
 destinationOperand (Low Segment) f = operand (code "v") (f .d) (Lanes (lanesOf 1 (f .size)) (f .size))
 destinationOperand (Low Long) f = operand (letterOf (f .size + 1)) (f .d) Plain
 destinationOperand (Wide wide) f = operand (code "z") (f .d) (Lane (f .size))
 
--- the governing predicate
+-- the governing predicate of a word of a family
 abbrev pub governingOperand : Family → Fields → Operand
 governingOperand (Low low) f = operand (code "p") (f .g) Plain
 governingOperand (Wide wide) f = operand (code "p") (f .g) Merging
 
--- a source of a number; that of a word that writes every lane has half the width, but in a widening word it may have the full one
+-- the source of this number of a word of a family: in one that writes every lane it has half the width, or the full one where a widening word says so
 abbrev pub sourceOperand : Family → Bool → ℕ → Fields → Operand
 sourceOperand (Low Reduction) full number f = operand (code "z") number (Lane (f .size))
 sourceOperand (Low Segment) full number f = operand (code "z") number (Lane (f .size))

@@ -33,7 +33,7 @@ pub struct Operand {
 // The letters of the sizes.
 const LETTERS: [u8; Length::SIZES] = *b"bhsd";
 
-// The letter of a size; 0 past the last.
+// The letter of a size; 0 past the last size.
 fn letter_of(size: usize) -> u8
     ensures { λ r. ⌜ r ≡ letterOf size ⌝ }
 {
@@ -98,7 +98,7 @@ pub fn put_further(out: &mut [u8], at: usize, digits: u32, operand: Operand) -> 
     put_operand(out, next, operand)
 }
 
-// A register with its letter, its number and what follows.
+// An operand: a register's letter, its number and what follows.
 fn register(letter: u8, number: usize, suffix: Suffix) -> Operand
     ensures { λ r. ⌜ r ≡ operand letter number suffix ⌝ }
 {
@@ -109,7 +109,7 @@ fn register(letter: u8, number: usize, suffix: Suffix) -> Operand
     }
 }
 
-// The size of half the width.
+// The size of half the width of another's lanes.
 fn half(size: usize) -> usize
     ensures { λ r. ⌜ r ≡ size - 1 ⌝ }
 {
@@ -123,7 +123,7 @@ fn widening_size(full: bool, size: usize) -> usize
     if full { size } else { half(size) }
 }
 
-// The destination.
+// The destination of a word of a family.
 pub fn destination(family: Family, f: Fields) -> Operand
     requires { ⌜ (f .size < sizes) × (f .q < 2) ⌝ }
     ensures { λ r. ⌜ r ≡ destinationOperand family f ⌝ }
@@ -139,7 +139,7 @@ pub fn destination(family: Family, f: Fields) -> Operand
     }
 }
 
-// The governing predicate.
+// The governing predicate of a word of a family.
 pub fn governing(family: Family, f: Fields) -> Operand
     ensures { λ r. ⌜ r ≡ governingOperand family f ⌝ }
 {
@@ -149,7 +149,7 @@ pub fn governing(family: Family, f: Fields) -> Operand
     }
 }
 
-// A source of a number.
+// The source of this number of a word of a family.
 pub fn source(family: Family, full: bool, number: usize, f: Fields) -> Operand
     requires { ⌜ (f .size < sizes) × (f .q < 2) ⌝ }
     ensures { λ r. ⌜ r ≡ sourceOperand family full number f ⌝ }

@@ -16,7 +16,7 @@ abbrev pub IsPart : ℕ → RefT (List ℕ) → RefT (List ℕ) → Kind → ℕ
 IsPart k z p kind r a =
     (now a ≡ registerPart k (now z) (now p) kind r) × (ptr a ≡ registerPlace k z p kind r)
 
--- the same bytes, at the same place in memory
+-- two parts that the contract of `register` allows have the same bytes, at the same place in memory
 pub register-determined : (k : ℕ) (z p : RefT (List ℕ)) (kind : Kind) (r : ℕ) (a b : RefT (List ℕ)) → IsPart k z p kind r a → IsPart k z p kind r b
     → (now a ≡ now b) × (ptr a ≡ ptr b)
 register-determined k z p kind r a b s t = (one-result _ _ _ (s .0) (t .0), one-result _ _ _ (s .1) (t .1))

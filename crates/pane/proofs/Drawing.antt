@@ -21,11 +21,11 @@ use Rattle.registers.specs.Register.{fileOf, registerBytes, registerAt, InFile}
 use Rattle.registers.proofs.Places.{in-files, length-register}
 use Rattle.pane.specs.Drawn.{registerTests, registerRefused, Drawable, registerPart, bytesOn, registerPlace}
 
--- the tests stand in the paper's order
+-- the tests of a register that is to be drawn stand in the paper's order
 pub register-in-order : (k : ℕ) (z p : List ℕ) (kind : Kind) (r : ℕ) → inOrder (registerTests k z p kind r) ≡ true
 register-in-order k z p kind r = refl
 
--- what no refusal tells
+-- where nothing refuses, the register can be drawn
 pub drawable : (k : ℕ) (z p : List ℕ) (kind : Kind) (r : ℕ) → registerRefused k z p kind r ≡ DONE → Drawable k z p kind r
 drawable k z p kind r e =
     record {
@@ -40,7 +40,7 @@ drawn-exactly k z p kind r = (
   λ d. rw (d .lent .legal, eq-eqb _ _ (d .lent .vectorSize), eq-eqb _ _ (d .lent .predicateSize), lt-leb _ _ (d .below)),
 )
 
--- each refusal exactly where its test holds and none before it does
+-- each refusal of a register that is to be drawn comes exactly where its test holds and none before it does
 pub register-refused-exactly : (k : ℕ) (z p : List ℕ) (kind : Kind) (r n : ℕ) → registerRefused k z p kind r ≡ suc n ↔ First (registerTests k z p kind r) (suc n)
 register-refused-exactly k z p kind r n = first-exactly (registerTests k z p kind r) n
 
@@ -53,22 +53,22 @@ bytes-some k Vector h = omega arith
 bytes-some k Predicate h = omega arith
 
 module _ (k : ℕ) (z p : List ℕ) (kind : Kind) (r : ℕ) (done : registerRefused k z p kind r ≡ DONE) where
-  -- the part has a register's bytes
+  -- the drawn part has as many bytes as a register of its kind
   pub part-length : length (registerPart k z p kind r) ≡ registerBytes k kind
   part-length = rw done (length-register k kind r (fileOf kind z p) (in-file k z p kind r (drawable k z p kind r done)))
 
-  -- and they are the file's, from the register's start on
+  -- the drawn part's bytes are the file's, from the register's start on
   pub part-byte : (i : ℕ) → i < registerBytes k kind → getD (registerPart k z p kind r) i 0 ≡ getD (fileOf kind z p) (registerAt k kind r + i) 0
   part-byte i h = rw (done, getD-take (registerBytes k kind) (drop (registerAt k kind r) (fileOf kind z p)) i 0 h, getD-drop (registerAt k kind r) (fileOf kind z p) i 0)
 
--- the part is empty exactly with a refusal
+-- the drawn part is empty exactly with a refusal
 pub part-empty : (k : ℕ) (z p : List ℕ) (kind : Kind) (r : ℕ) → registerPart k z p kind r ≡ [] ↔ (registerRefused k z p kind r ≡ DONE → ⊥)
 part-empty k z p kind r = (
   λ e done. omega (arith, bytes-some k kind (legal-least k (drawable k z p kind r done .lent .legal)), sym (part-length k z p kind r done) ∙ ap length e),
   λ h. unless-refused _ _ _ h,
 )
 
--- and lies at the start of the vector file
+-- with a refusal the drawn part lies at the start of the vector file
 pub empty-place : (k : ℕ) (z p : RefT (List ℕ)) (kind : Kind) (r : ℕ) → (registerRefused k (now z) (now p) kind r ≡ DONE → ⊥) → registerPlace k z p kind r ≡ ptr z
 empty-place k z p kind r h = unless-refused _ _ _ h
 

@@ -13,7 +13,7 @@ use Rattle.registers.specs.Register.{fileOf, registerCount, registerAt, registe
 abbrev pub registerTests : ℕ → List ℕ → List ℕ → Kind → ℕ → List Test
 registerTests k z p kind r = filesTests k (length z) (length p) ++ rangeTest (leb (registerCount kind) r) ∷ []
 
--- its refusal: LENGTH, FILE, RANGE or DONE
+-- the number that is told of a register that is to be drawn: LENGTH, FILE, RANGE or DONE
 abbrev pub registerRefused : ℕ → List ℕ → List ℕ → Kind → ℕ → ℕ
 registerRefused k z p kind r = refused (registerTests k z p kind r)
 
@@ -30,7 +30,7 @@ registerPart k z p kind r = unlessRefused (registerRefused k z p kind r) (regist
 abbrev pub Place : Type 0
 Place = ℕ × ℕ
 
--- the place some bytes bytesOn on
+-- the place that is n bytes further on in the same block
 abbrev pub bytesOn : ℕ → Place → Place
 bytesOn n a = (a .0, n + a .1)
 

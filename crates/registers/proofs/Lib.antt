@@ -1,1 +1,4 @@
 pub mod Places
+pub mod Numbers
+pub mod States
+pub mod Padded

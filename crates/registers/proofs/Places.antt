@@ -6,17 +6,20 @@ use mathlib.Core.List.{List}
 use native.Mathlib.Omega.{arith}
 use lib.ListN.{length}
 use Rattle.parts.proofs.Parts.{length-part, length-with}
-use Rattle.machine.specs.Size.{mostLength, Files}
+use Rattle.machine.specs.Size.{mostLength, vectorBytes, Files}
 use Rattle.machine.proofs.Places.{place-within}
 use Rattle.machine.proofs.Checks.{legal-most}
 use Rattle.registers.specs.declared.Kind.{Kind}
 use Rattle.registers.specs.declared.Kind.the-variants.{Vector, Predicate}
 use Rattle.registers.specs.Register.{fileOf, registerCount, registerBytes, fileBytes, registerAt, registerOf, withRegister, InFile}
 
--- a register has at most 256 bytes, and its file at most 8192
+-- a register has at most the bytes of a vector, at most 256, and its file at most 8192
+pub bytes-most : (k : ℕ) (kind : Kind) → registerBytes k kind ≤ vectorBytes k
+bytes-most k Vector = omega arith
+bytes-most k Predicate = omega arith
+
 pub bytes-few : (k : ℕ) (kind : Kind) → k ≤ mostLength → registerBytes k kind ≤ 256
-bytes-few k Vector h = omega arith
-bytes-few k Predicate h = omega arith
+bytes-few k kind h = omega (arith, bytes-most k kind)
 
 pub file-few : (k : ℕ) (kind : Kind) → k ≤ mostLength → fileBytes k kind ≤ 8192
 file-few k Vector h = omega arith

@@ -1,7 +1,9 @@
--- Registers in files: each kind of register has a file, a count and a size, and register r is a part of its file.
-use Prim.Native.Nat.{ℕ, _*_, _-_, _≤_, _<_}
+-- Registers, and registers in files: each kind of register has a file, a count and a size, and register r is a part of its file.
+use Prim.Native.Nat.{ℕ, _+_, _*_, _-_, _≤_, _<_}
 use mathlib.Core.Path.{_≡_}
+use mathlib.Core.Bool.{cond}
 use mathlib.Core.List.{List, _++_}
+use lib.Dec.{ltb}
 use lib.ListN.{length, replicate}
 use Rattle.parts.specs.Part.{part, withPart}
 use Rattle.machine.specs.Size.{mostLength, vectors, predicates, vectorBytes, predicateBytes}
@@ -17,6 +19,35 @@ fileOf Predicate z p = p
 abbrev pub registerCount : Kind → ℕ
 registerCount Vector = vectors
 registerCount Predicate = predicates
+
+-- a register: its kind and its number
+pub record Register : Type 0 where
+  pub kind : Kind
+  pub number : ℕ
+
+-- Z[r] and P[r]
+abbrev pub vector : ℕ → Register
+vector r = record { kind = Vector; number = r }
+
+abbrev pub predicate : ℕ → Register
+predicate r = record { kind = Predicate; number = r }
+
+-- a register that there is
+abbrev pub IsRegister : Register → Type 0
+IsRegister r = r .number < registerCount (r .kind)
+
+-- the number that an entry has for register r of a kind: those of the predicates follow those of the vectors
+abbrev pub numberAmongAll : Kind → ℕ → ℕ
+numberAmongAll Vector r = r
+numberAmongAll Predicate r = vectors + r
+
+-- a register's number in an entry: 0 to 31 a vector, 32 to 47 a predicate
+unfoldable pub entryNumber : Register → ℕ
+entryNumber r = numberAmongAll (r .kind) (r .number)
+
+-- the register that an entry's number names
+unfoldable pub numbered : ℕ → Register
+numbered n = cond (ltb n vectors) (vector n) (predicate (n - vectors))
 
 -- the bytes of a register of a kind
 abbrev pub registerBytes : ℕ → Kind → ℕ
@@ -47,7 +78,7 @@ withRegister k kind r bytes file = withPart (registerAt k kind r) (registerBytes
 abbrev pub withVector : ℕ → ℕ → List ℕ → List ℕ → List ℕ
 withVector k r bytes z = withRegister k Vector r bytes z
 
--- Z[r] and P[r]
+-- the bytes of Z[r] and of P[r]
 abbrev pub vectorOf : ℕ → ℕ → List ℕ → List ℕ
 vectorOf k r z = registerOf k Vector r z
 

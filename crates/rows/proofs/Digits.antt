@@ -31,7 +31,7 @@ and-next : (n a b : ℕ) → digitsAnd (suc n) a b ≡ digitsAnd n (a / 2) (b / 
 unfolding digitsAnd
 and-next n a b = refl
 
--- of the AND of two masks, each digit is the least of three
+-- a number under two masks: each digit is the least of three
 and-twice : (n w a b : ℕ)
     → digitsAnd (suc n) (digitsAnd (suc n) w a) b
     ≡ digitsAnd n (digitsAnd n (w / 2) (a / 2)) (b / 2) * 2 + min (min (w % 2) (a % 2)) (b % 2)
@@ -39,7 +39,7 @@ and-twice n w a b =
     and-next n (digitsAnd (suc n) w a) b
     ∙ ap₂ (λ (x y : ℕ). digitsAnd n x (b / 2) * 2 + min y (b % 2)) (omega (arith, and-next n w a)) (omega (arith, and-next n w a))
 
--- two masks, in either order
+-- a number is the same under two masks in either order, and so is the AND of two numbers
 pub and-swap : (n w a b : ℕ) → digitsAnd n (digitsAnd n w a) b ≡ digitsAnd n (digitsAnd n w b) a
 unfolding digitsAnd
 and-swap zero w a b = refl
@@ -68,7 +68,7 @@ and-add (suc n) w a b h =
     let rest = and-add n (w / 2) (a / 2) (b / 2) (omega arith) in
     rw half (omega (arith, rest))
 
--- nothing is left of 0, and all of a number under as many ones as it has digits
+-- under 0 nothing is left of a number, and all of it under as many ones as it has digits
 pub and-none : (n a : ℕ) → digitsAnd n a 0 ≡ 0
 and-none n a = and-comm n a 0 ∙ sym (and-digits n 0 a (pow-pos n))
 

@@ -14,7 +14,7 @@ use Rattle.rows.proofs.Digits.{and-swap}
 use Rattle.rows.proofs.Every.{every, at-each}
 use Rattle.rows.proofs.Rows.{row-matches, row-no-later}
 
--- the table has as many rows as are named
+-- the table has as many rows as `rows` says
 pub rows-counted : length table ≡ rows
 rows-counted = refl
 
@@ -26,7 +26,7 @@ apart r s = not (eqb (digitsAnd wordDigits (r .2) (s .1)) (digitsAnd wordDigits 
 unfoldable pub oneOrApart : ℕ → ℕ → Bool
 oneOrApart i j = cond (eqb i j) true (apart (rowAt i) (rowAt j))
 
--- it is so at all pairs of places of the table
+-- at all pairs of places of the table the rows are one row or stand apart
 pub all-apart : every rows (λ i. every rows (oneOrApart i)) ≡ true
 unfolding oneOrApart apart digitsAnd rowAt
 all-apart = refl

@@ -49,7 +49,7 @@ found (r ∷ rs) k word = go (matches r word) refl (found rs (suc k) word)
     go true e rest = (0, rw e (sym (add-zero k)), λ h. e)
     go false e rest = (suc (rest .0), rw e (rest .1 ∙ omega arith), λ h. rest .2 (omega arith))
 
--- and no later than at any row that matches
+-- the search stops no later than at any row that matches
 pub no-later : (rs : List Row) (k word i : ℕ) → i < length rs → matches (getD rs i noRow) word ≡ true → placeFrom k rs word ≤ k + i
 unfolding placeFrom
 no-later [] k word i h e = absurd (omega arith)
@@ -68,7 +68,7 @@ row-matches word h =
     let p : placeFrom 0 table word ≡ j = e ∙ zero-add j in
     rw p (m (rw p at h))
 
--- a row that matches is found no later
+-- the row that is found is no later than any that matches
 pub row-no-later : (word i : ℕ) → i < rows → matches (rowAt i) word ≡ true → rowOf word ≤ i
 unfolding rowOf rowAt
 row-no-later word i h e = rw zero-add at (no-later table 0 word i h e)

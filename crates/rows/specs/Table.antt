@@ -95,11 +95,11 @@ formOf i = formFor (rowAt i .3) (rowAt i .4) (rowAt i .5)
 abbrev pub familyOf : ℕ → Family
 familyOf i = formOf i .family
 
--- word AND mask = value
+-- whether a word is of a row: word AND mask = value
 unfoldable pub matches : Row → ℕ → Bool
 matches r word = eqb (digitsAnd wordDigits word (r .1)) (r .2)
 
--- the place of the first row that matches, counted from i; past the last where none does
+-- the place of the first of some rows that matches a word, counted from i; past the last where none does
 unfoldable pub placeFrom : ℕ → List Row → ℕ → ℕ
 placeFrom i [] word = i
 placeFrom i (r ∷ rs) word = cond (matches r word) i (placeFrom (suc i) rs word)

@@ -21,7 +21,7 @@ pub enum WideFamily {
     Widening,
 }
 
-// What else a row says: whether its elements are signed, whether it takes the top half elements, whether its first source's have the full
+// A row's parameters: whether its elements are signed, whether it takes the top half elements, whether its first source's have the full
 // width, and whether its second source's are subtracted.
 pub struct Parameters {
     pub signed: bool,
@@ -30,7 +30,7 @@ pub struct Parameters {
     pub subtract: bool,
 }
 
-// How a row works.
+// How a row works: its family, and its parameters.
 pub struct Form {
     pub family: Family,
     pub parameters: Parameters,
@@ -48,7 +48,7 @@ pub enum Operation {
     SubWide,
 }
 
-// Name, with a space where it has five letters; mask and value, a word being of this row where word AND mask = value; operation; whether
+// A row: name, with a space where it has five letters; mask and value, a word being of it where word AND mask = value; operation; whether
 // its elements are signed; and whether they are the odd ones, which are the top halves.
 pub struct Row(
     pub [u8; NAME],
@@ -81,7 +81,7 @@ const ADD_WIDE: Operation = Operation::AddWide;
 
 const SUB_WIDE: Operation = Operation::SubWide;
 
-// The families of the operations.
+// The families, each by a name of its own.
 const REDUCTION: Family = Family::Low(LowFamily::Reduction);
 
 const SEGMENT: Family = Family::Low(LowFamily::Segment);
@@ -92,7 +92,7 @@ const PAIRWISE: Family = Family::Wide(WideFamily::Pairwise);
 
 const WIDENING: Family = Family::Wide(WideFamily::Widening);
 
-// The elements' sign, and which are taken.
+// A row's flags by name: its elements' sign, and whether the even or the odd ones are taken.
 const SIGNED: bool = true;
 
 const UNSIGNED: bool = false;
@@ -101,7 +101,7 @@ const EVEN: bool = false;
 
 const ODD: bool = true;
 
-// A line for each word.
+// The table: a line for each word.
 const TABLE: [Row; ROWS] = [
     Row(*b"saddv ", 0xFF3FE000, 0x04002000, REDUCE, SIGNED, EVEN),
     Row(*b"uaddv ", 0xFF3FE000, 0x04012000, REDUCE, UNSIGNED, EVEN),
@@ -131,7 +131,7 @@ const TABLE: [Row; ROWS] = [
 // What stands past the last row.
 const NO_ROW: Row = Row(*b"      ", 0, 0, SEGMENTS, UNSIGNED, EVEN);
 
-// The table at hand.
+// The table, for a caller that looks through its lines.
 pub fn table() -> [Row; ROWS]
     ensures { λ r. ⌜ r ≡ table ⌝ }
 {

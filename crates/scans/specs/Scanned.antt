@@ -10,7 +10,7 @@ use Rattle.parts.specs.Part.{both}
 use Rattle.parts.specs.Text.{bytes}
 use Rattle.operands.specs.Operands.{letters}
 
--- what follows the first space
+-- what follows a text's first space
 unfoldable pub pastSpace : List ℕ → List ℕ
 pastSpace [] = []
 pastSpace (b ∷ l) = cond (eqb b (code " ")) l (pastSpace l)
@@ -31,7 +31,7 @@ isDigit b = both (leb (code "0") b) (leb b (code "9"))
 unfoldable pub numberIn : List ℕ → ℕ
 numberIn l = cond (isDigit (getD l 2 0)) (worth (getD l 1 0) * 10 + worth (getD l 2 0)) (worth (getD l 1 0))
 
--- the byte that is k places before the end
+-- the byte that is k places before a text's end
 unfoldable pub fromEnd : List ℕ → ℕ → ℕ
 fromEnd l k = cond (leb k (length l)) (getD l (length l - k) 0) 0
 
@@ -40,7 +40,7 @@ abbrev pub placeOf : ℕ → List ℕ → ℕ
 placeOf b [] = 0
 placeOf b (l ∷ ls) = cond (eqb b l) 0 (suc (placeOf b ls))
 
--- the size of the last letter
+-- the size that a text's last letter tells
 abbrev pub sizeIn : List ℕ → ℕ
 sizeIn text = placeOf (fromEnd text 1) letters
 

@@ -49,7 +49,7 @@ fn worth(b: u8) -> usize
     if b < b'0' { 0 } else { (b - b'0') as usize }
 }
 
-// Whether it is one.
+// Whether a byte is a decimal digit.
 fn is_digit(b: u8) -> bool
     ensures { λ r. ⌜ r ≡ isDigit b ⌝ }
 {
@@ -59,7 +59,7 @@ fn is_digit(b: u8) -> bool
     b <= b'9'
 }
 
-// The number after the letter at a place.
+// The number of one or two digits after the letter at a place.
 pub fn number_at(text: &[u8], at: usize) -> usize
     requires { ⌜ at ≤ length (now text) ⌝ }
     ensures { λ r. ⌜ r ≡ numberIn (drop at (now (text .entry))) ⌝ }
@@ -92,7 +92,7 @@ pub fn size_in(text: &[u8]) -> usize
     size_of(byte_from_end(text, 1))
 }
 
-// Q: whether the count of lanes ends as that of 16 bytes does.
+// Q: whether the count of lanes in a text ends as that of 16 bytes does.
 pub fn q_in(size: usize, text: &[u8]) -> usize
     ensures { λ r. ⌜ r ≡ qIn size (now (text .entry)) ⌝ }
 {

@@ -1,7 +1,8 @@
 // A step, which appends an entry and executes its word, and back, which takes the last entry off again.
 ghost use Rattle.registers.specs.State.{state};
-ghost use Rattle.journal.specs.Calls.{Stepped, Backed, Performed, CarriedOut};
-ghost use Rattle.journal.specs.Needs.{Ready, CarryOut};
+ghost use Rattle.journal.specs.Left.{coreOf, buffersOf};
+ghost use Rattle.steps.specs.Calls.{Stepped, Backed, Performed};
+ghost use Rattle.steps.specs.Needs.{Ready, CarryOut, CarriedOut};
 use facts::Facts;
 use machine::refusal;
 use words::Decoded;
@@ -9,8 +10,8 @@ use words::Fields;
 
 // Appends a word's entry, and executes the word.
 fn carry_out(k: usize, z: &mut [u8], p: &[u8], journal: &mut [u8], f: Fields)
-    requires { ⌜ CarryOut f k (state (now z) (now p)) (now journal) ⌝ }
-    ensures { λ _. ⌜ CarriedOut f k (state (now (z .entry)) (now (p .entry))) (now (journal .entry)) (now (z .exit)) (now (journal .exit)) ⌝ }
+    requires { ⌜ CarryOut k f (buffersOf (state (now z) (now p)) (now journal)) ⌝ }
+    ensures { λ _. ⌜ CarriedOut k f (buffersOf (state (now (z .entry)) (now (p .entry))) (now (journal .entry))) (now (z .exit)) (now (journal .exit)) ⌝ }
 {
     appends::append(k, z, journal, f.d);
     executes::execute(f, k, z, p);
@@ -18,10 +19,10 @@ fn carry_out(k: usize, z: &mut [u8], p: &[u8], journal: &mut [u8], f: Fields)
 
 // Executes the word at the position and appends its entry; or FULL, and all as it stood.
 fn perform(k: usize, z: &mut [u8], p: &[u8], journal: &mut [u8], f: Fields) -> u8
-    requires { ⌜ Ready f k (state (now z) (now p)) (now journal) ⌝ }
-    ensures { λ r. ⌜ Performed f k (state (now (z .entry)) (now (p .entry))) (now (journal .entry)) r (state (now (z .exit)) (now (p .entry))) (now (journal .exit)) ⌝ }
+    requires { ⌜ Ready k f (buffersOf (state (now z) (now p)) (now journal)) ⌝ }
+    ensures { λ r. ⌜ Performed k f (buffersOf (state (now (z .entry)) (now (p .entry))) (now (journal .entry))) r (buffersOf (state (now (z .exit)) (now (p .entry))) (now (journal .exit))) ⌝ }
 {
-    if entries::capacity(k, journal.len()) <= entries::held_of(journal) {
+    if entries::is_full(k, journal) {
         return refusal::FULL;
     }
     carry_out(k, z, p, journal, f);
@@ -37,9 +38,8 @@ pub fn step(
     program: &[u8],
     journal: &mut [u8],
 ) -> u8
-    ensures { λ r. ⌜ Stepped k facts (state (now (z .entry)) (now (p .entry))) (now (program .entry)) (now (journal .entry)) r
-        (state (now (z .exit)) (now (p .entry)))
-        (now (journal .exit)) ⌝ }
+    ensures { λ r. ⌜ Stepped (coreOf k facts) (now (program .entry)) (buffersOf (state (now (z .entry)) (now (p .entry))) (now (journal .entry))) r
+        (buffersOf (state (now (z .exit)) (now (p .entry))) (now (journal .exit))) ⌝ }
 {
     let start = journal::check_step(k, z, p, program, journal);
     if start != refusal::DONE {
@@ -58,7 +58,7 @@ pub fn step(
 
 // Takes the last step back; or a refusal, and all as it stood.
 pub fn back(k: usize, z: &mut [u8], p: &[u8], journal: &mut [u8]) -> u8
-    ensures { λ r. ⌜ Backed k (state (now (z .entry)) (now (p .entry))) (now (journal .entry)) r (state (now (z .exit)) (now (p .entry))) (now (journal .exit)) ⌝ }
+    ensures { λ r. ⌜ Backed k (buffersOf (state (now (z .entry)) (now (p .entry))) (now (journal .entry))) r (buffersOf (state (now (z .exit)) (now (p .entry))) (now (journal .exit))) ⌝ }
 {
     let number = journal::check_back(k, z, p, journal);
     if number != refusal::DONE {

@@ -19,7 +19,7 @@ module _ (w : ℕ) (a b : Governed) where
   pub same-active : (i : ℕ) → AgreeAt w i a b → active w i (a .predicate) ≡ active w i (b .predicate)
   same-active i h = ap (λ (n : ℕ). eqb n 1) (h .0)
 
-  -- and adds the same
+  -- a lane that agrees adds the same in both
   same-element : (signed : Bool) (i : ℕ) → AgreeAt w i a b
       → activeElement signed w (a .predicate) (a .register) i ≡ activeElement signed w (b .predicate) (b .register) i
   same-element signed i h =
@@ -27,7 +27,7 @@ module _ (w : ℕ) (a b : Governed) where
       (same-active i h)
       (λ t. ap (λ (bytes : List ℕ). integer signed (bitsOf w) (number bytes)) (h .1 t))
 
-  -- nothing else matters for the sum of a range
+  -- the sum of a range is the same where every lane of it agrees
   pub sum-of-active : (signed : Bool) (from to : ℕ) → ((i : ℕ) → from ≤ i → i < to → AgreeAt w i a b)
       → laneSum signed w from to (a .predicate) (a .register) ≡ laneSum signed w from to (b .predicate) (b .register)
   sum-of-active signed from to h =

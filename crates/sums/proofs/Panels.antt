@@ -36,7 +36,7 @@ module _ (w : ℕ) (predicate register : List ℕ) where
       (take s rows ++ panelFrom w predicate register s (mostLength - s) ≡ panelOf w predicate register)
       × (drop s rows ≡ replicate (mostLength - s) noRow)
 
-  -- before the first row
+  -- before the first row is filled, all rows are zero
   pub filled-none : Filled 0 (replicate mostLength noRow)
   unfolding panelOf
   filled-none = (refl, refl)
@@ -45,7 +45,7 @@ module _ (w : ℕ) (predicate register : List ℕ) where
   pub filled-length : (s : ℕ) (rows : List (List ℕ)) → s < mostLength → Filled s rows → s < length rows
   filled-length s rows h f = omega (arith, length-drop s rows, ap length (f .1), length-replicate (mostLength - s) noRow)
 
-  -- one row more
+  -- with the row of segment s filled, the rows below s + 1 are the panel's
   pub filled-next : (s : ℕ) (rows : List (List ℕ)) → s < mostLength → s * segmentBytes < length register → Filled s rows
       → Filled (s + 1) (set rows s (panelRow w predicate register s))
   filled-next s rows h k f =
@@ -63,7 +63,7 @@ module _ (w : ℕ) (predicate register : List ℕ) where
       more : mostLength - s ≡ suc (mostLength - suc s)
       more = omega arith
 
-  -- after the last segment
+  -- after the last segment all rows are the panel's
   pub filled-all : (s : ℕ) (rows : List (List ℕ)) → length register ≤ s * segmentBytes → Filled s rows → rows ≡ panelOf w predicate register
   filled-all s rows h f =
       sym (take-append-drop s rows)

@@ -36,18 +36,18 @@ module _ (D : ℕ) (adds : ℕ → ℤ) where
       there : a + (m - a) ≡ m
       there = omega arith
 
-  -- one number by itself
+  -- the sum of a range of one number
   pub sum-one : (a : ℕ) → sum a (a + 1) ≡ residue D (adds a)
   sum-one a = ap (λ (n : ℕ). residue D (total (each adds a n))) one ∙ ap (residue D) (+ℤ-idr (adds a))
     where
       one : a + 1 - a ≡ 1
       one = omega arith
 
-  -- one number more
+  -- the sum of a range with one number more
   pub sum-next : (a b : ℕ) → a ≤ b → sum a (b + 1) ≡ (sum a b + residue D (adds b)) % 2 ^ D
   sum-next a b h = sum-split a b (b + 1) h (omega arith) ∙ ap (λ (n : ℕ). (sum a b + n) % 2 ^ D) (sum-one b)
 
-  -- and from zero on
+  -- the sum of the numbers below n, with one number more
   pub sum-suc : (n : ℕ) → residue D (total (each adds 0 (suc n))) ≡ (residue D (total (each adds 0 n)) + residue D (adds n)) % 2 ^ D
   sum-suc n =
       sym (ap (λ (k : ℕ). residue D (total (each adds 0 k))) more)

@@ -33,7 +33,7 @@ pub record GovernedSegments (w : ℕ) (predicate register : List ℕ) : Type 0 w
   pub fills : FillsSegment w
   pub segments : WholeSegments register
 
--- segment s of such a register
+-- segment s of a register that lanes of w bytes fill, with a predicate that governs it
 pub record GovernedSegment (w s : ℕ) (predicate register : List ℕ) : Type 0 where
   pub governs : Governs w predicate register
   pub fills : FillsSegment w

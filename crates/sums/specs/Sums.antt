@@ -18,7 +18,7 @@ pub record Governed : Type 0 where
   pub predicate : List ℕ
   pub register : List ℕ
 
--- two of them agree at lane i: the predicates at its bit, and the registers at its bytes if it is active
+-- two registers with their predicates agree at lane i: the predicates at its bit, and the registers at its bytes if it is active
 abbrev pub AgreeAt : ℕ → ℕ → Governed → Governed → Type 0
 AgreeAt w i a b =
     (bitAt (i * w) (a .predicate) ≡ bitAt (i * w) (b .predicate))
@@ -42,7 +42,7 @@ pub record GovernedLane (w e : ℕ) (predicate register : List ℕ) : Type 0 whe
   pub governs : Governs w predicate register
   pub inside : e * w + w ≤ length register
 
--- and so do the lanes from a up to but without b
+-- the lanes from a up to but without b lie within a register that a predicate governs
 pub record GovernedRange (w a b : ℕ) (predicate register : List ℕ) : Type 0 where
   pub governs : Governs w predicate register
   pub ordered : a ≤ b

@@ -31,7 +31,7 @@ pub record Accepted (k : ℕ) (z p : List ℕ) (source predicate size : ℕ) : T
   pub size-is : size < sizes
 
 module _ (k : ℕ) (z p : List ℕ) (source predicate size : ℕ) where
-  -- a panel that is not refused
+  -- of a panel that is not refused: the length, the files and the numbers are right
   pub panel-accepted : panelRefused k z p source predicate size ≡ DONE → Accepted k z p source predicate size
   panel-accepted h =
       let none = none-refused (filesTests k (length z) (length p)) tt _ h in
@@ -44,7 +44,7 @@ module _ (k : ℕ) (z p : List ℕ) (source predicate size : ℕ) where
         size-is = ltb-true size sizes (both-right (ltb predicate governing) (ltb size sizes) rest);
       }
 
-  -- and one of files of a legal length and of numbers that there are is not
+  -- a panel of files of a legal length and of numbers that there are is not refused
   pub panel-done : Files k z p → source < vectors → predicate < governing → size < sizes → panelRefused k z p source predicate size ≡ DONE
   panel-done files a b c =
       rw (

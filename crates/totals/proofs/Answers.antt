@@ -32,7 +32,7 @@ module _ (k : ℕ) (z p : List ℕ) (source predicate size : ℕ) where
   pub panel-in-order : inOrder (panelTests k z p source predicate size) ≡ true
   panel-in-order = refl
 
-  -- those of a subtotal
+  -- the refusals of a subtotal: each exactly in its case, in the paper's order
   pub subtotal-exactly : (a b n : ℕ) → subtotalRefused k z p source predicate size a b ≡ suc n ↔ First (subtotalTests k z p source predicate size a b) (suc n)
   subtotal-exactly a b = first-exactly (subtotalTests k z p source predicate size a b)
 

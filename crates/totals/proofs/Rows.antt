@@ -11,7 +11,7 @@ use Rattle.parts.specs.Part.{withPart}
 use Rattle.machine.specs.Size.{segmentBytes}
 use Rattle.totals.specs.Written.{joined}
 
--- rows one after the other, and one more
+-- the bytes of rows one after the other, with one row more
 joined-append : (rows more : List (List ℕ)) → joined (rows ++ more) ≡ joined rows ++ joined more
 joined-append [] more = refl
 joined-append (row ∷ rows) more = ap (λ (l : List ℕ). row ++ l) (joined-append rows more) ∙ sym (append-assoc row (joined rows) (joined more))

@@ -27,7 +27,7 @@ abbrev pub panelWrittenTests : ℕ → List ℕ → List ℕ → ℕ → ℕ →
 panelWrittenTests k z p source predicate size n =
     filesTests k (length z) (length p) ++ outTest (ltb n panelBytes) ∷ rangeTest (not (inRange source predicate size)) ∷ []
 
--- its refusal: LENGTH, FILE, OUT, RANGE or DONE
+-- the number that a panel to be written to n bytes is answered with: LENGTH, FILE, OUT, RANGE or DONE
 abbrev pub panelWrittenRefused : ℕ → List ℕ → List ℕ → ℕ → ℕ → ℕ → ℕ → ℕ
 panelWrittenRefused k z p source predicate size n = refused (panelWrittenTests k z p source predicate size n)
 

@@ -2,36 +2,32 @@
 -- either count by one at most.
 -- Assumes nothing.
 use Prim.Native.Nat.{ℕ, zero, suc, _+_, _≤_}
-use mathlib.Core.Path.{_≡_, refl}
+use mathlib.Core.Path.{_≡_, refl, sym, _∙_, ap}
 use mathlib.Core.List.{List}
 use native.Mathlib.Omega.{arith}
-use Rattle.facts.specs.declared.Facts.{Facts}
-use Rattle.registers.specs.State.{State}
-use Rattle.journal.specs.Calls.{Stepped, Backed}
+use Rattle.journal.specs.Left.{Core, Buffers, Left}
+use Rattle.steps.specs.Calls.{stepped, backed, Stepped, Backed}
 use Rattle.travel.specs.declared.Travelled.{Travelled}
-use Rattle.travel.specs.Travel.{directed, countedFor, tripOf, onward, Gone}
+use Rattle.travel.specs.Travel.{directed, countedFor, tripOf, wentOn, onward, Gone}
 
 pub directed-forward : {X : Type 0} (direction : ℕ) (back forward : X) → (direction ≡ 0 → ⊥) → directed direction back forward ≡ forward
 directed-forward zero back forward h = absurd (h refl)
 directed-forward (suc direction) back forward h = refl
 
-module _ (k : ℕ) (facts : Facts) (s : State) (program journal : List ℕ) (direction r : ℕ) (after : State) (bytes : List ℕ) where
-  pub gone-back : direction ≡ 0 → Backed k s journal r after bytes → Gone k facts s program journal direction r after bytes
-  gone-back e h = rw e h
+module _ (c : Core) (program : List ℕ) (direction : ℕ) (b : Buffers) (r : ℕ) (after : Buffers) where
+  pub gone-back : direction ≡ 0 → Backed (c .k) b r after → Gone c program direction b r after
+  gone-back e h = rw e (h .leaves)
 
-  pub gone-forward : (direction ≡ 0 → ⊥) → Stepped k facts s program journal r after bytes → Gone k facts s program journal direction r after bytes
-  gone-forward e h = go direction e
-    where
-      go : (direction : ℕ) → (direction ≡ 0 → ⊥) → Gone k facts s program journal direction r after bytes
-      go zero e = absurd (e refl)
-      go (suc direction) e = h
+  pub gone-forward : (direction ≡ 0 → ⊥) → Stepped c program b r after → Gone c program direction b r after
+  gone-forward e h = h .leaves ∙ sym (directed-forward direction (backed (c .k) b) (stepped c program b) e)
 
 -- a step taken and counted is a step more of the trip
-pub trip-onward : (k : ℕ) (facts : Facts) (s : State) (program journal : List ℕ) (direction r : ℕ) (after : State) (bytes : List ℕ) (made more : Travelled)
-    → Gone k facts s program journal direction r after bytes
+pub trip-onward : (c : Core) (program : List ℕ) (direction : ℕ) (b : Buffers) (r : ℕ) (after : Buffers) (made more : Travelled)
+    → Gone c program direction b r after
     → more ≡ countedFor direction r made
-    → tripOf after bytes more ≡ onward k facts program direction (tripOf s journal made)
-trip-onward k facts s program journal direction r after bytes made more gone count = rw (count, gone .answered, gone .files, gone .bytes)
+    → tripOf after more ≡ onward c program direction (tripOf b made)
+trip-onward c program direction b r after made more gone count =
+    ap (tripOf after) count ∙ ap (λ (l : Left Buffers). wentOn direction l (tripOf b made)) gone
 
 pub counted-few : (direction number bound : ℕ) (made : Travelled) → made .forward ≤ bound → made .back ≤ bound
     → (countedFor direction number made .forward ≤ bound + 1) × (countedFor direction number made .back ≤ bound + 1)

@@ -1,90 +1,78 @@
--- What a step and a step back leave alone, refused or not: every byte of the vector file outside one register, the predicates, every byte of
--- the journal outside its count and one entry, and all sizes.
+-- What a step and a step back leave alone, refused or not: every byte of the files outside one register, every byte of the journal outside its
+-- count and one entry, and all sizes.
 -- Assumes nothing.
-use Prim.Native.Nat.{ℕ, zero, suc, _+_, _-_, _≤_}
-use mathlib.Core.Path.{_≡_, refl, sym, _∙_, ap}
+use Prim.Native.Nat.{ℕ, zero, suc, _-_}
+use mathlib.Core.Path.{_≡_, refl}
 use mathlib.Core.List.{List}
 use native.Mathlib.Omega.{arith}
-use lib.ListN.{length, getD, replicate, length-replicate}
-use Rattle.parts.specs.Number.{bytesOf}
-use Rattle.parts.proofs.Numbers.{length-bytes}
-use Rattle.parts.proofs.Parts.{length-part, getD-outside}
-use Rattle.machine.specs.Size.{vectorBytes}
-use Rattle.registers.specs.declared.Kind.the-variants.{Vector}
-use Rattle.registers.specs.Register.{registerAt, InFile}
-use Rattle.facts.specs.declared.Facts.{Facts}
-use Rattle.registers.specs.State.{State}
-use Rattle.registers.proofs.Places.{register-inside, length-with-register}
-use Rattle.meaning.specs.Execute.{destinationAfter}
-use Rattle.meaning.proofs.Sizes.{length-destination}
-use Rattle.entries.specs.Layout.{countAt, countBytes, entryBytes, entryAt, heldOf, Entry, encodedEntry, lastEntry, withEntry}
-use Rattle.journal.specs.Calls.{fieldsNow, entryFor, restored, stepRefused, stepState, stepJournal, backRefused, backState, backJournal}
-use Rattle.journal.specs.Frame.{Kept}
-use Rattle.journal.proofs.Accepted.{step-accepted, step-stood, back-accepted, back-stood, can-take-back}
-use Rattle.entries.proofs.Written.{written, header, length-written, entry-room, entry-size}
-use Rattle.travel.proofs.Undone.{destination, step-room}
+use lib.ListN.{length, getD, take}
+use Rattle.parts.specs.Part.{Outside}
+use Rattle.registers.specs.Register.{Register, IsRegister, registerBytes, numbered}
+use Rattle.registers.specs.State.{Sized, write}
+use Rattle.registers.proofs.Numbers.{numbered-is}
+use Rattle.registers.proofs.States.{write-sizes, write-other, write-kept}
+use Rattle.meaning.specs.Execute.{targetOf, effectOf}
+use Rattle.meaning.proofs.Effects.{effect-target, effect-sized, target-register}
+use Rattle.entries.specs.Layout.{versionOf, countAt, countBytes, entryBytes, entryAt, heldOf, lastEntry}
+use Rattle.entries.proofs.Versions.{greatest-register}
+use Rattle.entries.proofs.Restored.{put-back-whole}
+use Rattle.entries.proofs.Written.{length-pushed, pushed-kept, length-popped, popped-kept, last-named, length-last}
+use Rattle.journal.specs.Left.{Core, Buffers, buffersOf}
+use Rattle.steps.specs.Calls.{fieldsNow, stepped, backed}
+use Rattle.steps.specs.Frame.{Kept}
+use Rattle.steps.proofs.Accepted.{step-accepted, step-refused, back-accepted, back-refused}
+use Rattle.travel.proofs.Undone.{step-room}
 
-kept-same : (k d i : ℕ) (s after : State) (journal journal-after : List ℕ) → s ≡ after → journal ≡ journal-after → Kept k d i s journal after journal-after
-kept-same k d i s after journal journal-after p q =
+-- nothing changes
+kept-same : (k : ℕ) (r : Register) (i : ℕ) (b : Buffers) → Kept k r i b b
+kept-same k r i b = record { sizes = λ kind. refl; other = λ kind h. refl; outside = λ x h. refl; journalSize = refl; entries = λ x h g. refl }
+
+-- a register is written, and an entry with the count
+kept-written : (k : ℕ) (r : Register) (i : ℕ) (b : Buffers) (bytes after : List ℕ) → Sized k (b .files) → IsRegister r → length bytes ≡ registerBytes k (r .kind)
+    → length after ≡ length (b .journal)
+    → ((x : ℕ) → Outside countAt countBytes x → Outside (entryAt k (b .journal) i) (entryBytes k) x → getD after x 0 ≡ getD (b .journal) x 0)
+    → Kept k r i b (buffersOf (write k r bytes (b .files)) after)
+kept-written k r i b bytes after sized is whole size entries =
     record {
-      vectorSize = ap (λ (t : State). length (t .z)) (sym p);
-      vectors = λ x h. ap (λ (t : State). getD (t .z) x 0) (sym p);
-      predicates = ap (λ (t : State). t .p) (sym p);
-      journalSize = ap length (sym q);
-      entries = λ x h g. ap (λ (l : List ℕ). getD l x 0) (sym q);
+      sizes = write-sizes k r (b .files) sized is bytes whole;
+      other = write-other k r (b .files) sized is bytes whole;
+      outside = write-kept k r (b .files) sized is bytes whole;
+      journalSize = size;
+      entries = entries;
     }
 
--- a register written, and an entry with the count
-kept-written : (k i n : ℕ) (new : Entry) (s : State) (journal e : List ℕ) → InFile k Vector (new .number) (s .z) → length (new .old) ≡ vectorBytes k
-    → entryAt k journal i + entryBytes k ≤ length journal → length e ≡ entryBytes k
-    → Kept k (new .number) i s journal (restored k new s) (written k i n e journal)
-kept-written k i n new s journal e register sized inside entry =
-    record {
-      vectorSize = length-with-register k Vector (new .number) (s .z) register (new .old) sized;
-      vectors = getD-outside (registerAt k Vector (new .number)) (vectorBytes k) (new .old) (s .z) (register-inside k Vector (new .number) (s .z) register) sized;
-      predicates = refl;
-      journalSize = length-written k i n e journal inside entry;
-      entries = λ x h g.
-          getD-outside countAt countBytes (bytesOf countBytes n) (withEntry k i e journal) (header k i n e journal inside entry) (length-bytes countBytes n) x h
-          ∙ getD-outside (entryAt k journal i) (entryBytes k) e journal inside entry x g;
-    }
-
--- a step changes its destination's bytes, the next entry and the count
-pub step-frame : (k : ℕ) (facts : Facts) (s : State) (program journal : List ℕ)
-    → Kept k (fieldsNow program journal .d) (heldOf journal) s journal (stepState k facts s program journal) (stepJournal k facts s program journal)
-step-frame k facts s program journal = go (stepRefused k facts s program journal) refl
+-- a step changes its target's bytes, the next entry and the count
+pub step-frame : (c : Core) (program : List ℕ) (b : Buffers)
+    → Kept (c .k) (targetOf (fieldsNow program (b .journal))) (heldOf (b .journal)) b (stepped c program b .after)
+step-frame c program b = go (stepped c program b .number) refl
   where
-    go : (r : ℕ) → stepRefused k facts s program journal ≡ r
-        → Kept k (fieldsNow program journal .d) (heldOf journal) s journal (stepState k facts s program journal) (stepJournal k facts s program journal)
+    go : (r : ℕ) → stepped c program b .number ≡ r → Kept (c .k) (targetOf (fieldsNow program (b .journal))) (heldOf (b .journal)) b (stepped c program b .after)
     go zero e =
-        let a = step-accepted k facts s program journal e in
-        let f = fieldsNow program journal in
-        let entry = entryFor k f s in
-        let room = step-room k facts s program journal a in
-        rw (a .files, a .bytes)
-        (kept-written k (heldOf journal) (heldOf journal + 1) (record { number = f .d; old = destinationAfter f k s }) s journal (encodedEntry entry)
-        (destination f k s (a .executes))
-        (length-destination f k s (a .executes))
-        (entry-room k entry journal room)
-        (entry-size k entry journal room))
-    go (suc r) e =
-        let stood = step-stood k facts s program journal (suc r) (sym e) (λ (h : suc r ≡ 0). omega arith) in
-        kept-same k (fieldsNow program journal .d) (heldOf journal) s _ journal _ (stood .files) (stood .bytes)
+        let a = step-accepted c program b e in
+        let f = fieldsNow program (b .journal) in
+        let room = step-room c program b a in
+        rw (a .left, effect-target f (c .k) (b .files))
+        (kept-written (c .k) (targetOf f) (heldOf (b .journal)) b (effectOf f (c .k) (b .files) .bytes) _ (a .start .sized)
+        (target-register f (c .k) (b .files) (a .executes))
+        (effect-sized f (c .k) (b .files) (a .executes))
+        (length-pushed (c .k) _ (b .journal) room)
+        (pushed-kept (c .k) _ (b .journal) room))
+    go (suc r) e = rw (step-refused c program b (λ z. omega (arith, e, z))) (kept-same (c .k) _ (heldOf (b .journal)) b)
 
 -- a step back changes the bytes of the register that the last entry names, that entry and the count
-pub back-frame : (k : ℕ) (s : State) (journal : List ℕ)
-    → Kept k (lastEntry k journal .number) (heldOf journal - 1) s journal (backState k s journal) (backJournal k s journal)
-back-frame k s journal = go (backRefused k s journal) refl
+pub back-frame : (k : ℕ) (b : Buffers) → Kept k (numbered (lastEntry k (b .journal) .number)) (heldOf (b .journal) - 1) b (backed k b .after)
+back-frame k b = go (backed k b .number) refl
   where
-    go : (r : ℕ) → backRefused k s journal ≡ r → Kept k (lastEntry k journal .number) (heldOf journal - 1) s journal (backState k s journal) (backJournal k s journal)
+    go : (r : ℕ) → backed k b .number ≡ r → Kept k (numbered (lastEntry k (b .journal) .number)) (heldOf (b .journal) - 1) b (backed k b .after)
     go zero e =
-        let b = back-accepted k s journal e in
-        let t = can-take-back k s journal (b .sized) (b .formed) (b .some) .last in
-        rw (b .files, b .bytes)
-        (kept-written k (heldOf journal - 1) (heldOf journal - 1) (lastEntry k journal) s journal (replicate (entryBytes k) 0) (t .register)
-        (length-part (entryAt k journal (heldOf journal - 1) + 1) (vectorBytes k) journal (omega (arith, t .entry .inside)))
-        (t .entry .inside)
-        (length-replicate (entryBytes k) 0))
-    go (suc r) e =
-        let stood = back-stood k s journal (suc r) (sym e) (λ (h : suc r ≡ 0). omega arith) in
-        kept-same k (lastEntry k journal .number) (heldOf journal - 1) s _ journal _ (stood .files) (stood .bytes)
+        let a = back-accepted k b e in
+        let s = a .start in
+        let last = lastEntry k (b .journal) in
+        let r = numbered (last .number) in
+        rw (a .left)
+        (kept-written k r (heldOf (b .journal) - 1) b (take (registerBytes k (r .kind)) (last .old)) _ (s .sized)
+        (numbered-is (last .number) (greatest-register (versionOf (b .journal)) _ (last-named k (b .journal) (s .formed) (s .some))))
+        (put-back-whole k (r .kind) (last .old) (length-last k (b .journal) (s .formed) (s .some)))
+        (length-popped k (b .journal) (s .formed) (s .some))
+        (popped-kept k (b .journal) (s .formed) (s .some)))
+    go (suc r) e = rw (back-refused k b (λ z. omega (arith, e, z))) (kept-same k _ (heldOf (b .journal) - 1) b)

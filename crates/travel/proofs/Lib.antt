@@ -1,4 +1,4 @@
-pub mod Closed
+pub mod Fresh
 pub mod Undone
 pub mod Frame
 pub mod Walked

@@ -1,117 +1,81 @@
 -- The position along a walk, as the call answers it: 0 after fresh, one more after an accepted step, one less after an accepted step back; and
 -- from a fresh start as many as the accepted steps forward exceed those back.
 -- Assumes nothing.
-use Prim.Native.Nat.{ℕ, suc, _+_, _-_, _≤_, _<_}
-use mathlib.Core.Path.{_≡_, refl, sym, _∙_, ap}
+use Prim.Native.Nat.{ℕ, _+_, _-_}
+use mathlib.Core.Path.{_≡_, refl, sym, _∙_}
 use mathlib.Core.Bool.{true}
-use mathlib.Core.List.{List}
+use mathlib.Core.List.{List, []}
 use native.Mathlib.Omega.{arith}
-use lib.ListN.{length, replicate, length-replicate}
+use lib.ListN.{length}
 use Rattle.machine.specs.Size.{isLegal}
 use Rattle.machine.specs.Refusal.{DONE, lengthTests, refused}
 use Rattle.machine.proofs.Tests.{none-refused}
-use Rattle.facts.specs.declared.Facts.{Facts}
-use Rattle.registers.specs.State.{State}
-use Rattle.entries.specs.Layout.{entryBytes, entryAt, heldOf, positionOf, entryIn, firstEntries, areNamed, freshJournal, pushed, popped}
+use Rattle.entries.specs.Layout.{isVersion, positionOf, freshJournal, popped}
+use Rattle.entries.specs.Formed.{Formed}
 use Rattle.entries.specs.Tests.{roomTests}
-use Rattle.journal.specs.Calls.{freshRefused, fieldsNow, entryFor, Freshened, Stepped, Backed}
-use Rattle.entries.proofs.Places.{slot-inside, named-both}
-use Rattle.entries.proofs.Formed.{Formed, length-legal, room-given}
-use Rattle.journal.proofs.Accepted.{step-accepted, back-accepted, position-accepts}
-use Rattle.entries.proofs.Written.{length-written, heading-written, held-written, entries-kept, held-pushed, formed-pushed}
-use Rattle.travel.specs.declared.Travelled.{Travelled}
-use Rattle.travel.specs.Travel.{FreshStart, Made, PositionIs, OneOn}
-use Rattle.travel.proofs.Closed.{held-closed, formed-none}
+use Rattle.entries.proofs.Formed.{length-legal, room-given}
+use Rattle.entries.proofs.Written.{position-pushed, formed-pushed, position-popped, position-some, formed-popped}
+use Rattle.entries.proofs.Closed.{position-closed, formed-none}
+use Rattle.journal.specs.Left.{Core, Buffers}
+use Rattle.journal.specs.Calls.{freshened, Freshened}
+use Rattle.journal.proofs.Left.{number-left, buffers-left}
+use Rattle.journal.proofs.Accepted.{fresh-number, fresh-done, position-accepts}
+use Rattle.steps.specs.Calls.{Stepped, Backed}
+use Rattle.steps.proofs.Accepted.{step-accepted, back-accepted}
+use Rattle.travel.specs.Travel.{Trip, FreshStart, Ahead, PositionIs, OneOn}
 use Rattle.travel.proofs.Undone.{step-room}
-use Rattle.travel.proofs.Walked.{held, formed-walked}
+use Rattle.travel.proofs.Walked.{position, formed-walked}
 
 -- of a well-formed journal at a legal length the position is answered
 told : (k n : ℕ) (journal : List ℕ) → isLegal k ≡ true → Formed k journal → positionOf journal ≡ n → PositionIs k journal n
 told k n journal legal formed e = rw (position-accepts k journal legal formed, e)
 
 -- a fresh journal's position is 0
-pub position-of-fresh : (k : ℕ) (journal : List ℕ) (r : ℕ) (after : List ℕ) → Freshened k journal r after → r ≡ DONE → PositionIs k after 0
-position-of-fresh k journal r after made done =
-    let e : freshRefused k journal ≡ DONE = sym (made .answered) ∙ done in
-    let none = none-refused (lengthTests k) tt (refused (roomTests (length journal))) e in
-    let room = room-given (length journal) _ refl (none .1) in
-    let left : after ≡ freshJournal k (length journal) = made .bytes ∙ rw e in
+pub position-of-fresh : (k version : ℕ) (journal : List ℕ) (r : ℕ) (after : List ℕ) → isVersion version ≡ true → Freshened k version journal r after → r ≡ DONE
+    → PositionIs k after 0
+position-of-fresh k version journal r after versioned made done =
+    let e : freshened k version journal .number ≡ DONE = sym (number-left made) ∙ done in
+    let none = none-refused (lengthTests k) tt (refused (roomTests version (length journal))) (sym (fresh-number k version journal) ∙ e) in
+    let room = room-given version (length journal) _ refl (none .1) in
+    let left : after ≡ freshJournal version k (length journal) = buffers-left made ∙ fresh-done k version journal e in
     rw left
-    (told k 0 (freshJournal k (length journal)) (length-legal k _ refl (none .0)) (formed-none k (length journal) room) (held-closed k (length journal) _ tt (omega arith)))
+    (told k 0 (freshJournal version k (length journal)) (length-legal k _ refl (none .0)) (formed-none version k (length journal) versioned room)
+    (position-closed version k (length journal) [] tt (omega arith)))
 
 -- an accepted step is one on
-pub position-of-step : (k : ℕ) (facts : Facts) (s : State) (program journal : List ℕ) (r : ℕ) (after : State) (later : List ℕ) → Stepped k facts s program journal r after later → r ≡ DONE
-    → OneOn k journal later
-position-of-step k facts s program journal r after later made done =
-    let a = step-accepted k facts s program journal (sym (made .answered) ∙ done) in
-    let entry = entryFor k (fieldsNow program journal) s in
-    let room = step-room k facts s program journal a in
-    let formed = formed-pushed k entry journal room (a .start .formed) (omega (arith, a .executes .fields .d)) in
+pub position-of-step : (c : Core) (program : List ℕ) (b : Buffers) (r : ℕ) (after : Buffers) → Stepped c program b r after → r ≡ DONE
+    → OneOn (c .k) (b .journal) (after .journal)
+position-of-step c program b r after made done =
+    let a = step-accepted c program b (sym (number-left (made .leaves)) ∙ done) in
+    let room = step-room c program b a in
     let legal = a .start .sized .legal in
-    rw (made .bytes ∙ a .bytes)
+    rw (buffers-left (made .leaves) ∙ a .left)
     (record {
-      position = positionOf journal;
-      before = told k (positionOf journal) journal legal (a .start .formed) refl;
-      after = told k (positionOf journal + 1) (pushed k entry journal) legal formed (held-pushed k entry journal room);
+      position = positionOf (b .journal);
+      before = told (c .k) (positionOf (b .journal)) (b .journal) legal (a .start .formed) refl;
+      after = told (c .k) (positionOf (b .journal) + 1) _ legal (formed-pushed (c .k) _ (b .journal) room (a .named)) (position-pushed (c .k) _ (b .journal) room);
     })
 
--- a well-formed journal without its last entry is well formed, and holds one entry less
-module _ (k : ℕ) (journal : List ℕ) (f : Formed k journal) (some : 0 < heldOf journal) where
-  abbrev last : ℕ
-  last = heldOf journal - 1
-
-  abbrev zeros : List ℕ
-  zeros = replicate (entryBytes k) 0
-
-  inside : entryAt k journal last + entryBytes k ≤ length journal
-  inside = slot-inside k (length journal) last (f .least) (omega (arith, f .fits))
-
-  size : length (popped k journal) ≡ length journal
-  size = length-written k last last zeros journal inside (length-replicate (entryBytes k) 0)
-
-  fewer : heldOf (popped k journal) ≡ last
-  fewer = held-written k last last zeros journal inside (length-replicate (entryBytes k) 0) (omega (arith, f .few))
-
-  -- the entries that are left are the first ones, which had their numbers before
-  names : areNamed (firstEntries k journal last) ≡ true
-  names =
-      let more : heldOf journal ≡ suc last = omega arith in
-      named-both (firstEntries k journal last) (entryIn k journal last) (sym (ap (λ (n : ℕ). areNamed (firstEntries k journal n)) more) ∙ f .named) .0
-
-  formed-popped : Formed k (popped k journal)
-  formed-popped =
-      record {
-        least = omega (arith, size, f .least);
-        most = omega (arith, size, f .most);
-        agrees = heading-written k last last zeros journal inside (length-replicate (entryBytes k) 0) ∙ f .agrees;
-        few = omega (arith, fewer, f .few);
-        fits = rw (fewer, size) (omega (arith, f .fits));
-        named = ap (λ (n : ℕ). areNamed (firstEntries k (popped k journal) n)) fewer
-            ∙ ap areNamed (entries-kept k last last zeros journal inside (length-replicate (entryBytes k) 0) last (omega arith))
-            ∙ names;
-      }
-
 -- an accepted step back is one back
-pub position-of-back : (k : ℕ) (s : State) (journal : List ℕ) (r : ℕ) (after : State) (former : List ℕ) → Backed k s journal r after former → r ≡ DONE
-    → OneOn k former journal
-position-of-back k s journal r after former made done =
-    let b = back-accepted k s journal (sym (made .answered) ∙ done) in
-    let legal = b .sized .legal in
-    rw (made .bytes ∙ b .bytes)
+pub position-of-back : (k : ℕ) (b : Buffers) (r : ℕ) (after : Buffers) → Backed k b r after → r ≡ DONE → OneOn k (after .journal) (b .journal)
+position-of-back k b r after made done =
+    let a = back-accepted k b (sym (number-left (made .leaves)) ∙ done) in
+    let s = a .start in
+    let legal = s .sized .legal in
+    let some = position-some k (b .journal) (s .formed) (s .some) in
+    rw (buffers-left (made .leaves) ∙ a .left)
     (record {
-      position = positionOf journal - 1;
-      before = told k (positionOf journal - 1) (popped k journal) legal (formed-popped k journal (b .formed) (b .some)) (fewer k journal (b .formed) (b .some));
-      after = told k (positionOf journal - 1 + 1) journal legal (b .formed) (omega (arith, b .some));
+      position = positionOf (b .journal) - 1;
+      before = told k (positionOf (b .journal) - 1) (popped k (b .journal)) legal (formed-popped k (b .journal) (s .formed) (s .some))
+          (position-popped k (b .journal) (s .formed) (s .some));
+      after = told k (positionOf (b .journal) - 1 + 1) (b .journal) legal (s .formed) (omega (arith, some));
     })
 
 -- after any steps from a fresh start it is as many as the accepted steps forward exceed those back
-pub position-of-travel : (k : ℕ) (facts : Facts) (s : State) (program journal directions : List ℕ) (after : State) (later : List ℕ) (made : Travelled)
-    → Made k facts s program journal directions after later made
-    → FreshStart k s journal
-    → PositionIs k later (made .forward - made .back)
-position-of-travel k facts s program journal directions after later made all fresh =
-    let w = all .walked fresh .walked in
-    let n = made .forward - made .back in
-    rw (w .entries)
-    (told k n _ (fresh .sized .legal) (formed-walked k facts (length journal) program s (fresh .sized) (fresh .room) n (w .walkable))
-    (held k facts (length journal) program s (fresh .sized) (fresh .room) n (w .walkable)))
+pub position-ahead : (c : Core) (program : List ℕ) (start : Buffers) (t : Trip) → FreshStart (c .k) start → Ahead c start program t
+    → PositionIs (c .k) (t .buffers .journal) (t .made .forward - t .made .back)
+position-ahead c program start t fresh ahead =
+    let w = ahead .walked in
+    let n = t .made .forward - t .made .back in
+    rw (w .left)
+    (told (c .k) n _ (fresh .sized .legal) (formed-walked c program start fresh n (w .walkable)) (position c program start fresh n (w .walkable)))

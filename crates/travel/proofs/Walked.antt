@@ -2,7 +2,7 @@
 -- in closed form stays one under an accepted step and an accepted step back.
 -- Assumes nothing.
 use Prim.Native.Nat.{ℕ, zero, suc, _≤_, _<_}
-use mathlib.Core.Path.{_≡_, refl, _∙_, ap}
+use mathlib.Core.Path.{_≡_, refl, sym, _∙_, ap, ap₂}
 use mathlib.Core.Bool.{Bool, true, false}
 use mathlib.Core.List.{List, [], _∷_}
 use native.Mathlib.Omega.{arith}
@@ -10,146 +10,170 @@ use lib.Dec.{ltb}
 use lib.ListN.{length, length-append}
 use borrow.Author.Tests.{ltb-true, ltb-false}
 use Rattle.machine.specs.Size.{mostWords}
-use Rattle.facts.specs.declared.Facts.{Facts}
 use Rattle.registers.specs.State.{State, Sized}
 use Rattle.programs.specs.Word.{wordAt, wordsOf}
 use Rattle.words.specs.Decode.{decoded}
+use Rattle.words.specs.declared.Decoded.the-variants.{Word}
 use Rattle.cores.specs.Core.{decodedOn}
 use Rattle.cores.proofs.Answers.{core-decodes}
-use Rattle.words.specs.declared.Decoded.the-variants.{Word}
-use Rattle.meaning.specs.Execute.{executed}
+use Rattle.meaning.specs.Execute.{targetOf, executed}
 use Rattle.meaning.specs.Needs.{Executable}
-use Rattle.entries.specs.Layout.{isRoom, capacity, heldOf, Entry, journalOf, pushed}
-use Rattle.journal.specs.Calls.{entryFor, restored, stepRefused, stepState, stepJournal, backRefused, backState, backJournal}
+use Rattle.meaning.proofs.Effects.{target-register, executed-sized}
+use Rattle.entries.specs.Layout.{versionOf, layoutOf, capacityFor, capacityOf, heldOf, positionOf, Entry, journalOf, pushed}
+use Rattle.entries.specs.Formed.{Formed}
+use Rattle.entries.specs.Restored.{entryOf, restored}
 use Rattle.entries.proofs.Places.{slots-inside, room-least}
-use Rattle.journal.proofs.Accepted.{executable, step-accepted, back-accepted}
-use Rattle.entries.proofs.Formed.{Formed}
-use Rattle.entries.proofs.Written.{formed-pushed}
-use Rattle.travel.proofs.Closed.{EntriesSized, RoomAfter, sized-more, length-closed, held-closed, formed-none, has-room, pushed-closed, last-closed, popped-closed}
-use Rattle.travel.proofs.Undone.{old-whole, executed-sized, restored-executed}
-use Rattle.travel.specs.Walk.{fieldsIn, walkedState, walkedEntries, Walkable}
-use Rattle.travel.specs.Travel.{AsWalked}
+use Rattle.entries.proofs.Restored.{entry-whole}
+use Rattle.entries.proofs.Written.{full-room, formed-pushed}
+use Rattle.entries.proofs.Closed.{EntriesSized, RoomAfter, sized-more, version-closed, length-closed, held-closed, position-closed, formed-none, has-room, pushed-closed, last-closed, popped-closed}
+use Rattle.journal.specs.Left.{Core, Buffers, buffersOf}
+use Rattle.steps.specs.Calls.{carriedOut, stepped, backed}
+use Rattle.steps.proofs.Accepted.{executable, step-accepted, back-accepted, target-named}
+use Rattle.travel.specs.Walk.{fieldsIn, walkedState, walkedEntries, walkedBuffers, Walkable, AsWalked}
+use Rattle.travel.specs.Travel.{FreshStart}
+use Rattle.travel.proofs.Undone.{restored-executed}
 
--- fewer words can be walked as well
-pub walkable-less : (k : ℕ) (facts : Facts) (bytes n : ℕ) (program : List ℕ) → Walkable k facts bytes (suc n) program → Walkable k facts bytes n program
-walkable-less k facts bytes n program w =
-    record { inside = omega (arith, w .inside); few = omega (arith, w .few); fits = omega (arith, w .fits); accepted = λ i h. w .accepted i (omega arith) }
+module _ (c : Core) (program : List ℕ) (start : Buffers) where
+  -- fewer words can be walked as well
+  pub walkable-less : (n : ℕ) → Walkable c program start (suc n) → Walkable c program start n
+  walkable-less n w = record { inside = omega (arith, w .inside); few = omega (arith, w .few); fits = omega (arith, w .fits); accepted = λ i h. w .accepted i (omega arith) }
 
--- and one more that is accepted
-walkable-more : (k : ℕ) (facts : Facts) (bytes n : ℕ) (program : List ℕ) → Walkable k facts bytes n program → suc n ≤ wordsOf (length program) → suc n ≤ mostWords → suc n ≤ capacity k bytes
-    → decodedOn facts (wordAt program n) ≡ Word (fieldsIn program n)
-    → Walkable k facts bytes (suc n) program
-walkable-more k facts bytes n program w inside few fits next = record { inside = inside; few = few; fits = fits; accepted = accepted }
-  where
-    accepted : (i : ℕ) → i < suc n → decodedOn facts (wordAt program i) ≡ Word (fieldsIn program i)
-    accepted i h = go (ltb i n) refl
-      where
-        go : (t : Bool) → ltb i n ≡ t → decodedOn facts (wordAt program i) ≡ Word (fieldsIn program i)
-        go true e = w .accepted i (ltb-true i n e)
-        go false e = let last : i ≡ n = omega (arith, ltb-false i n e) in rw last next
+  -- and one more that is accepted
+  walkable-more : (n : ℕ) → Walkable c program start n → suc n ≤ wordsOf (length program) → suc n ≤ mostWords → suc n ≤ capacityOf (c .k) (start .journal)
+      → decodedOn (c .facts) (wordAt program n) ≡ Word (fieldsIn program n)
+      → Walkable c program start (suc n)
+  walkable-more n w inside few fits next = record { inside = inside; few = few; fits = fits; accepted = accepted }
+    where
+      accepted : (i : ℕ) → i < suc n → decodedOn (c .facts) (wordAt program i) ≡ Word (fieldsIn program i)
+      accepted i h = go (ltb i n) refl
+        where
+          go : (t : Bool) → ltb i n ≡ t → decodedOn (c .facts) (wordAt program i) ≡ Word (fieldsIn program i)
+          go true e = w .accepted i (ltb-true i n e)
+          go false e = let last : i ≡ n = omega (arith, ltb-false i n e) in rw last next
 
-module _ (k : ℕ) (facts : Facts) (bytes : ℕ) (program : List ℕ) (s : State) (sized : Sized k s) (room : isRoom bytes ≡ true) where
-  -- the registers, the entries and the journal after n words, and the entry of word n
+module _ (c : Core) (program : List ℕ) (start : Buffers) (fresh : FreshStart (c .k) start) where
+  -- the buffers' version and size
+  abbrev version : ℕ
+  version = versionOf (start .journal)
+
+  abbrev bytes : ℕ
+  bytes = length (start .journal)
+
+  -- the registers, the entries and the buffers after n words, and the entry of word n
   abbrev after : ℕ → State
-  after n = walkedState k program n s
+  after n = walkedState (c .k) program n (start .files)
 
   abbrev entries : ℕ → List Entry
-  entries n = walkedEntries k program n s
+  entries n = walkedEntries (c .k) program n (start .files)
 
   abbrev journal : ℕ → List ℕ
-  journal n = journalOf k bytes (entries n)
+  journal n = journalOf version (c .k) bytes (entries n)
+
+  abbrev at : ℕ → Buffers
+  at n = walkedBuffers (c .k) program start n
 
   abbrev entry : ℕ → Entry
-  entry n = entryFor k (fieldsIn program n) (after n)
+  entry n = entryOf (c .k) (targetOf (fieldsIn program n)) (after n)
 
   record Walked (n : ℕ) : Type 0 where
-    files : Sized k (after n)
-    whole : EntriesSized k (entries n)
+    files : Sized (c .k) (after n)
+    whole : EntriesSized (c .k) (entries n)
     count : length (entries n) ≡ n
 
   -- the last of the words decodes to its fields
-  walks : (n : ℕ) → Walkable k facts bytes (suc n) program → decoded (wordAt program n) ≡ Word (fieldsIn program n)
-  walks n w = core-decodes facts (wordAt program n) (fieldsIn program n) (w .accepted n (omega arith))
+  walks : (n : ℕ) → Walkable c program start (suc n) → decoded (wordAt program n) ≡ Word (fieldsIn program n)
+  walks n w = core-decodes (c .facts) (wordAt program n) (fieldsIn program n) (w .accepted n (omega arith))
 
-  walked : (n : ℕ) → Walkable k facts bytes n program → Walked n
+  walked : (n : ℕ) → Walkable c program start n → Walked n
   unfolding walkedState walkedEntries
-  walked zero w = record { files = sized; whole = tt; count = refl }
+  walked zero w = record { files = fresh .sized; whole = tt; count = refl }
   walked (suc n) w =
-      let before = walked n (walkable-less k facts bytes n program w) in
-      let x = executable k (wordAt program n) (fieldsIn program n) (after n) (before .files) (walks n w) in
+      let before = walked n (walkable-less c program start n w) in
+      let f = fieldsIn program n in
+      let x = executable (c .k) (wordAt program n) f (after n) (before .files) (walks n w) in
       record {
-        files = executed-sized (fieldsIn program n) k (after n) x;
-        whole = sized-more k (entries n) (entry n) (before .whole) (old-whole (fieldsIn program n) k (after n) x);
+        files = executed-sized f (c .k) (after n) x;
+        whole = sized-more (c .k) (entries n) (entry n) (before .whole) (entry-whole (c .k) (targetOf f) (after n) (before .files) (target-register f (c .k) (after n) x));
         count = length-append (entries n) (entry n ∷ []) ∙ omega (arith, before .count);
       }
 
-  executes : (n : ℕ) → Walkable k facts bytes (suc n) program → Executable (fieldsIn program n) k (after n)
+  executes : (n : ℕ) → Walkable c program start (suc n) → Executable (fieldsIn program n) (c .k) (after n)
   executes n w =
-      executable k (wordAt program n) (fieldsIn program n) (after n) (walked n (walkable-less k facts bytes n program w) .files) (walks n w)
+      executable (c .k) (wordAt program n) (fieldsIn program n) (after n) (walked n (walkable-less c program start n w) .files) (walks n w)
 
-  -- the journal holds as many entries, in as many bytes
-  pub held : (n : ℕ) → Walkable k facts bytes n program → heldOf (journal n) ≡ n
-  held n w = let h = walked n w in held-closed k bytes (entries n) (h .whole) (omega (arith, h .count, w .few)) ∙ h .count
+  -- the journal holds as many entries, and its position is as many words on
+  pub held : (n : ℕ) → Walkable c program start n → heldOf (journal n) ≡ n
+  held n w = let h = walked n w in held-closed version (c .k) bytes (entries n) (h .whole) (omega (arith, h .count, w .few)) ∙ h .count
 
-  size : (n : ℕ) → Walkable k facts bytes n program → length (journal n) ≡ bytes
-  size n w =
+  pub position : (n : ℕ) → Walkable c program start n → positionOf (journal n) ≡ n
+  position n w = let h = walked n w in position-closed version (c .k) bytes (entries n) (h .whole) (omega (arith, h .count, w .few)) ∙ h .count
+
+  -- it can hold as many entries as the start's can
+  holds : (n : ℕ) → Walkable c program start n → capacityOf (c .k) (journal n) ≡ capacityOf (c .k) (start .journal)
+  holds n w =
       let h = walked n w in
-      length-closed k bytes (entries n) (h .whole) (slots-inside k bytes (length (entries n)) (room-least bytes room) (rw (h .count) (w .fits)))
+      let inside = slots-inside (layoutOf version .header) (c .k) bytes (length (entries n)) (room-least version bytes (fresh .room)) (rw (h .count) (w .fits)) in
+      let is = version-closed version (c .k) bytes (entries n) (h .whole) (fresh .versioned) in
+      let size = length-closed version (c .k) bytes (entries n) (h .whole) (fresh .versioned) inside in
+      ap₂ (λ (header most : ℕ). capacityFor header (c .k) most) (ap (λ (number : ℕ). layoutOf number .header) is) size
 
   -- the entry of a word that can be walked fits after those before it
-  fits : (n : ℕ) → Walkable k facts bytes (suc n) program → RoomAfter k bytes (entries n) (entry n)
+  fits : (n : ℕ) → Walkable c program start (suc n) → RoomAfter version (c .k) bytes (entries n) (entry n)
   fits n w =
-      let h = walked n (walkable-less k facts bytes n program w) in
+      let h = walked n (walkable-less c program start n w) in
+      let f = fieldsIn program n in
       record {
+        versioned = fresh .versioned;
         sized = h .whole;
-        whole = old-whole (fieldsIn program n) k (after n) (executes n w);
-        least = room-least bytes room;
+        whole = entry-whole (c .k) (targetOf f) (after n) (h .files) (target-register f (c .k) (after n) (executes n w));
+        least = room-least version bytes (fresh .room);
         room = rw (h .count) (w .fits);
         few = rw (h .count) (w .few);
       }
 
   -- and the journal is well formed
-  pub formed-walked : (n : ℕ) → Walkable k facts bytes n program → Formed k (journal n)
+  pub formed-walked : (n : ℕ) → Walkable c program start n → Formed (c .k) (journal n)
   unfolding walkedEntries
-  formed-walked zero w = formed-none k bytes room
+  formed-walked zero w = formed-none version (c .k) bytes (fresh .versioned) (fresh .room)
   formed-walked (suc n) w =
-      rw (← pushed-closed k bytes (entries n) (entry n) (fits n w))
-      (formed-pushed k (entry n) (journal n) (has-room k bytes (entries n) (entry n) (fits n w)) (formed-walked n (walkable-less k facts bytes n program w))
-      (omega (arith, executes n w .fields .d)))
+      let before = formed-walked n (walkable-less c program start n w) in
+      rw (← pushed-closed version (c .k) bytes (entries n) (entry n) (fits n w))
+      (formed-pushed (c .k) (entry n) (journal n) (has-room version (c .k) bytes (entries n) (entry n) (fits n w) before)
+      (target-named (fieldsIn program n) (c .k) (versionOf (journal n)) (after n) (executes n w)))
 
   -- an accepted step walks one word more
-  step-walkable : (n : ℕ) → Walkable k facts bytes n program → stepRefused k facts (after n) program (journal n) ≡ 0 → Walkable k facts bytes (suc n) program
+  step-walkable : (n : ℕ) → Walkable c program start n → stepped c program (at n) .number ≡ 0 → Walkable c program start (suc n)
   step-walkable n w e =
-      let a = step-accepted k facts (after n) program (journal n) e in
-      walkable-more k facts bytes n program w (rw (held n w) at (a .start .inside)) (rw (held n w) at (a .start .few)) (rw (held n w, size n w) at (a .room)) (rw (held n w) at (a .word))
+      let a = step-accepted c program (at n) e in
+      let room = full-room (c .k) (journal n) (a .room) (a .start .formed) in
+      walkable-more c program start n w (rw (position n w) at (a .start .inside)) (rw (position n w) at (a .start .few)) (rw (held n w, holds n w) at room)
+      (rw (position n w) at (a .word))
 
-  pub step-walks : (n : ℕ) → Walkable k facts bytes n program → stepRefused k facts (after n) program (journal n) ≡ 0
-      → AsWalked k facts s program bytes (suc n) (stepState k facts (after n) program (journal n)) (stepJournal k facts (after n) program (journal n))
+  pub step-walks : (n : ℕ) → Walkable c program start n → stepped c program (at n) .number ≡ 0 → AsWalked c program start (suc n) (stepped c program (at n) .after)
   unfolding walkedState walkedEntries
   step-walks n w e =
-      let a = step-accepted k facts (after n) program (journal n) e in
+      let a = step-accepted c program (at n) e in
       let more = step-walkable n w e in
       record {
-        files = a .files ∙ ap (λ (i : ℕ). executed (fieldsIn program i) k (after n)) (held n w);
-        entries = a .bytes
-            ∙ ap (λ (i : ℕ). pushed k (entryFor k (fieldsIn program i) (after n)) (journal n)) (held n w)
-            ∙ pushed-closed k bytes (entries n) (entry n) (fits n more);
+        left = a .left
+            ∙ ap (λ (i : ℕ). carriedOut (c .k) (fieldsIn program i) (at n)) (position n w)
+            ∙ ap (buffersOf (after (suc n))) (pushed-closed version (c .k) bytes (entries n) (entry n) (fits n more));
         walkable = more;
       }
 
   -- an accepted step back walks one word less, and there is one
-  pub back-walks : (n : ℕ) → Walkable k facts bytes (suc n) program → backRefused k (after (suc n)) (journal (suc n)) ≡ 0
-      → AsWalked k facts s program bytes n (backState k (after (suc n)) (journal (suc n))) (backJournal k (after (suc n)) (journal (suc n)))
+  pub back-walks : (n : ℕ) → Walkable c program start (suc n) → backed (c .k) (at (suc n)) .number ≡ 0
+      → AsWalked c program start n (backed (c .k) (at (suc n)) .after)
   unfolding walkedState walkedEntries
   back-walks n w e =
-      let b = back-accepted k (after (suc n)) (journal (suc n)) e in
       record {
-        files = b .files
-            ∙ ap (λ (last : Entry). restored k last (after (suc n))) (last-closed k bytes (entries n) (entry n) (fits n w))
-            ∙ restored-executed (fieldsIn program n) k (after n) (executes n w);
-        entries = b .bytes ∙ popped-closed k bytes (entries n) (entry n) (fits n w);
-        walkable = walkable-less k facts bytes n program w;
+        left = back-accepted (c .k) (at (suc n)) e .left
+            ∙ ap₂ buffersOf
+            (ap (λ (last : Entry). restored (c .k) last (after (suc n))) (last-closed version (c .k) bytes (entries n) (entry n) (fits n w))
+            ∙ restored-executed (fieldsIn program n) (c .k) (after n) (executes n w))
+            (popped-closed version (c .k) bytes (entries n) (entry n) (fits n w));
+        walkable = walkable-less c program start n w;
       }
 
-  pub back-refuses : Walkable k facts bytes zero program → backRefused k (after zero) (journal zero) ≡ 0 → ⊥
-  back-refuses w e = omega (arith, back-accepted k (after zero) (journal zero) e .some, held zero w)
+  pub back-refuses : Walkable c program start zero → backed (c .k) (at zero) .number ≡ 0 → ⊥
+  back-refuses w e = omega (arith, back-accepted (c .k) (at zero) e .start .some, held zero w)

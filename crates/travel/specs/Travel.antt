@@ -1,4 +1,5 @@
--- Steps forward and back over the same buffers, all on one core, and what is left of them.
+-- Steps forward and back over the same buffers, all on one core, and what is left of them; a chain of a host's own calls, and what demand 3
+-- says of it.
 use Prim.Native.Nat.{ℕ, zero, suc, _+_, _-_, _≤_, _<_}
 use mathlib.Core.Path.{_≡_}
 use mathlib.Core.Bool.{true}
@@ -6,30 +7,24 @@ use mathlib.Core.List.{List, [], _∷_}
 use lib.ListN.{length}
 use Rattle.machine.specs.Refusal.{DONE, unlessRefused}
 use Rattle.registers.specs.State.{State, Sized}
-use Rattle.facts.specs.declared.Facts.{Facts}
-use Rattle.entries.specs.Layout.{isRoom, journalOf, freshJournal}
-use Rattle.journal.specs.Calls.{stepRefused, stepState, stepJournal, backRefused, backState, backJournal, positionAnswer, Leaves}
+use Rattle.entries.specs.Layout.{isVersion, versionOf, isRoom, freshJournal}
+use Rattle.journal.specs.Left.{Core, Buffers, buffersOf, Left, leftWith}
+use Rattle.journal.specs.Calls.{positionAnswer, Freshened}
+use Rattle.steps.specs.Calls.{stepped, backed, Stepped, Backed}
 use Rattle.travel.specs.declared.Travelled.{Travelled}
-use Rattle.travel.specs.Walk.{walkedState, walkedEntries, Walkable}
+use Rattle.travel.specs.Walk.{AsWalked}
 
 -- of what a step back and a step forward have, that of the step in a direction: 0 is a step back, all else a step forward
 abbrev pub directed : {X : Type 0} → ℕ → X → X → X
 directed zero back forward = back
 directed (suc direction) back forward = forward
 
--- a step in a direction: its refusal, and the state and the journal that it leaves
-abbrev pub goRefused : ℕ → Facts → State → List ℕ → List ℕ → ℕ → ℕ
-goRefused k facts s program journal direction = directed direction (backRefused k s journal) (stepRefused k facts s program journal)
+-- what a step in a direction leaves
+abbrev pub gone : Core → List ℕ → ℕ → Buffers → Left Buffers
+gone c program direction b = directed direction (backed (c .k) b) (stepped c program b)
 
-abbrev pub goState : ℕ → Facts → State → List ℕ → List ℕ → ℕ → State
-goState k facts s program journal direction = directed direction (backState k s journal) (stepState k facts s program journal)
-
-abbrev pub goJournal : ℕ → Facts → State → List ℕ → List ℕ → ℕ → List ℕ
-goJournal k facts s program journal direction = directed direction (backJournal k s journal) (stepJournal k facts s program journal)
-
-abbrev pub Gone : ℕ → Facts → State → List ℕ → List ℕ → ℕ → ℕ → State → List ℕ → Type 0
-Gone k facts s program journal direction =
-    Leaves (goRefused k facts s program journal direction) (goState k facts s program journal direction) (goJournal k facts s program journal direction)
+abbrev pub Gone : Core → List ℕ → ℕ → Buffers → ℕ → Buffers → Type 0
+Gone c program direction b r after = leftWith r after ≡ gone c program direction b
 
 -- the steps counted, with one more in a direction unless it was refused
 abbrev pub countedFor : ℕ → ℕ → Travelled → Travelled
@@ -45,51 +40,64 @@ pub record Countable (made : Travelled) (bound : ℕ) : Type 0 where
   pub forward : made .forward + 1 < bound
   pub back : made .back + 1 < bound
 
--- both files, the journal, and the steps counted
+-- the buffers, and the steps counted
 pub record Trip : Type 0 where
-  pub files : State
-  pub journal : List ℕ
+  pub buffers : Buffers
   pub made : Travelled
 
-abbrev pub tripOf : State → List ℕ → Travelled → Trip
-tripOf s journal made = record { files = s; journal = journal; made = made }
+abbrev pub tripOf : Buffers → Travelled → Trip
+tripOf b made = record { buffers = b; made = made }
 
 -- a trip that starts: no steps counted
-abbrev pub starting : State → List ℕ → Trip
-starting s journal = tripOf s journal (record { forward = 0; back = 0 })
+abbrev pub starting : Buffers → Trip
+starting b = tripOf b (record { forward = 0; back = 0 })
 
--- a step more
-abbrev pub onward : ℕ → Facts → List ℕ → ℕ → Trip → Trip
-onward k facts program direction t =
-    tripOf (goState k facts (t .files) program (t .journal) direction) (goJournal k facts (t .files) program (t .journal) direction)
-    (countedFor direction (goRefused k facts (t .files) program (t .journal) direction) (t .made))
+-- a trip with a step more, of which it is known what it leaves
+abbrev pub wentOn : ℕ → Left Buffers → Trip → Trip
+wentOn direction l t = tripOf (l .after) (countedFor direction (l .number) (t .made))
 
--- some steps, one after the other: the facts stay from each to the next
-unfoldable pub travelled : ℕ → Facts → List ℕ → List ℕ → Trip → Trip
-travelled k facts program [] t = t
-travelled k facts program (direction ∷ directions) t = travelled k facts program directions (onward k facts program direction t)
+abbrev pub onward : Core → List ℕ → ℕ → Trip → Trip
+onward c program direction t = wentOn direction (gone c program direction (t .buffers)) t
 
--- files of a legal length, and a fresh journal of a legal size
-pub record FreshStart (k : ℕ) (s : State) (journal : List ℕ) : Type 0 where
-  pub sized : Sized k s
-  pub room : isRoom (length journal) ≡ true
-  pub fresh : journal ≡ freshJournal k (length journal)
+-- some steps, one after the other: the core stays from each to the next
+unfoldable pub travelled : Core → List ℕ → List ℕ → Trip → Trip
+travelled c program [] t = t
+travelled c program (direction ∷ directions) t = travelled c program directions (onward c program direction t)
 
--- what the plain walk of n words leaves: the registers after them, and a journal of their entries; and the words can be walked
-pub record AsWalked (k : ℕ) (facts : Facts) (s : State) (program : List ℕ) (bytes n : ℕ) (after : State) (journal : List ℕ) : Type 0 where
-  pub files : after ≡ walkedState k program n s
-  pub entries : journal ≡ journalOf k bytes (walkedEntries k program n s)
-  pub walkable : Walkable k facts bytes n program
+-- files of a legal length, and a fresh journal of a version that is defined and of a legal size
+pub record FreshStart (k : ℕ) (b : Buffers) : Type 0 where
+  pub sized : Sized k (b .files)
+  pub versioned : isVersion (versionOf (b .journal)) ≡ true
+  pub room : isRoom (versionOf (b .journal)) (length (b .journal)) ≡ true
+  pub fresh : b .journal ≡ freshJournal (versionOf (b .journal)) k (length (b .journal))
 
--- a trip that is as many words on as its steps forward exceed those back, and has what the plain walk leaves there
-pub record Ahead (k : ℕ) (facts : Facts) (s : State) (program : List ℕ) (bytes : ℕ) (t : Trip) : Type 0 where
+-- a trip that is as many words on as its steps forward exceed those back, and has what the plain walk from a start leaves there
+pub record Ahead (c : Core) (start : Buffers) (program : List ℕ) (t : Trip) : Type 0 where
   pub ahead : t .made .back ≤ t .made .forward
-  pub walked : AsWalked k facts s program bytes (t .made .forward - t .made .back) (t .files) (t .journal)
+  pub walked : AsWalked c program start (t .made .forward - t .made .back) (t .buffers)
 
 -- what travel leaves, and how many steps were accepted: that of the steps one after the other; and from a fresh start that of the plain walk
-pub record Made (k : ℕ) (facts : Facts) (s : State) (program journal directions : List ℕ) (after : State) (journal-after : List ℕ) (made : Travelled) : Type 0 where
-  pub all : tripOf after journal-after made ≡ travelled k facts program directions (starting s journal)
-  pub walked : FreshStart k s journal → Ahead k facts s program (length journal) (tripOf after journal-after made)
+pub record Made (c : Core) (b : Buffers) (program directions : List ℕ) (after : Buffers) (made : Travelled) : Type 0 where
+  pub all : tripOf after made ≡ travelled c program directions (starting b)
+  pub walked : FreshStart (c .k) b → Ahead c b program (tripOf after made)
+
+-- a chain of a host's own calls from a start: steps forward and back with one core and one program, each beginning where the one before it
+-- ended, refused ones among them; with where it has got to, and how many were accepted
+pub data Calls (c : Core) (program : List ℕ) (start : Buffers) : Trip → Type 0 where
+  none : Calls c program start (starting start)
+  forward : {t : Trip} {r : ℕ} {after : Buffers} → Calls c program start t → Stepped c program (t .buffers) r after
+      → Calls c program start (wentOn 1 (leftWith r after) t)
+  back : {t : Trip} {r : ℕ} {after : Buffers} → Calls c program start t → Backed (c .k) (t .buffers) r after
+      → Calls c program start (wentOn 0 (leftWith r after) t)
+
+-- demand 3: from any files of a legal length and a journal that the call made fresh, any chain of calls ends where the plain walk does after as
+-- many words as the accepted steps forward exceed those back
+abbrev pub Demand3 : Type 0
+Demand3 =
+    (c : Core) (program : List ℕ) (s : State) (version : ℕ) (old fresh : List ℕ) (t : Trip) → Sized (c .k) s → isVersion version ≡ true
+    → Freshened (c .k) version old DONE fresh
+    → Calls c program (buffersOf s fresh) t
+    → Ahead c (buffersOf s fresh) program t
 
 -- the call for a journal's position answers n
 abbrev pub PositionIs : ℕ → List ℕ → ℕ → Type 0

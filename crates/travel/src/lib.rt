@@ -2,6 +2,7 @@
 ghost use mathlib.Core.Path.{_≡_};
 ghost use Prim.Native.Nat.{_^_};
 ghost use Rattle.registers.specs.State.{state};
+ghost use Rattle.journal.specs.Left.{coreOf, buffersOf};
 ghost use Rattle.travel.specs.Travel.{countedFor, Gone, Countable, Made};
 use facts::Facts;
 use machine::refusal;
@@ -25,9 +26,8 @@ fn go(
     journal: &mut [u8],
     direction: u8,
 ) -> u8
-    ensures { λ r. ⌜ Gone k facts (state (now (z .entry)) (now (p .entry))) (now (program .entry)) (now (journal .entry)) direction r
-        (state (now (z .exit)) (now (p .entry)))
-        (now (journal .exit)) ⌝ }
+    ensures { λ r. ⌜ Gone (coreOf k facts) (now (program .entry)) direction (buffersOf (state (now (z .entry)) (now (p .entry))) (now (journal .entry))) r
+        (buffersOf (state (now (z .exit)) (now (p .entry))) (now (journal .exit))) ⌝ }
 {
     if direction == BACK {
         return steps::back(k, z, p, journal);
@@ -65,9 +65,8 @@ pub fn travel(
     journal: &mut [u8],
     directions: &[u8],
 ) -> Travelled
-    ensures { λ r. ⌜ Made k facts (state (now (z .entry)) (now (p .entry))) (now (program .entry)) (now (journal .entry)) (now (directions .entry))
-        (state (now (z .exit)) (now (p .entry)))
-        (now (journal .exit))
+    ensures { λ r. ⌜ Made (coreOf k facts) (buffersOf (state (now (z .entry)) (now (p .entry))) (now (journal .entry))) (now (program .entry)) (now (directions .entry))
+        (buffersOf (state (now (z .exit)) (now (p .entry))) (now (journal .exit)))
         r ⌝ }
 {
     let mut made = Travelled {

@@ -5,91 +5,106 @@ use mathlib.Core.Path.{_≡_, refl, sym, _∙_}
 use mathlib.Core.Bool.{Bool, true, false}
 use mathlib.Core.Logic.{_↔_}
 use mathlib.Core.List.{List, [], _++_, append-nil}
-use Prim.Native.Nat.{ℕ, zero, suc, _+_, _*_, _≤_}
-use native.Mathlib.Numerals.{add-one}
+use Prim.Native.Nat.{ℕ, zero, suc, _+_, _*_, _-_, _≤_, _<_}
+use native.Mathlib.Nat.{zero-mul, suc-mul, mul-le-mul-right, div-mul-le-self}
 use native.Mathlib.Omega.{arith}
 use lib.Dec.{ltb}
 use lib.ListN.{length, length-append, take, drop}
 use lib.Seq.{take-length, take-at}
-use borrow.Author.Tests.{ltb-false}
+use borrow.Author.Tests.{ltb-false, le-leb}
 use Rattle.machine.specs.Size.{mostWords, isLegal}
 use Rattle.machine.specs.Refusal.{DONE, OUT, inOrder, First, refused, unlessRefused}
 use Rattle.machine.specs.declared.Answer.{Answer}
 use Rattle.machine.proofs.Tests.{first-exactly, unless-refused}
-use Rattle.facts.specs.declared.Facts.{Facts}
-use Rattle.registers.specs.State.{State}
 use Rattle.digits.specs.Digits.{digitsIn, widthWithin, decimalWidth}
 use Rattle.digits.proofs.Puts.{put-length}
-use Rattle.entries.specs.Layout.{mostJournal, entryBytes, heldOf}
-use Rattle.journal.specs.Calls.{freshAfter, fieldsNow, entryFor, stepRefused, stepState, stepJournal, Stepped}
-use Rattle.entries.proofs.Places.{slot-next}
-use Rattle.journal.proofs.Accepted.{step-accepted}
-use Rattle.entries.proofs.Written.{entry-room, length-pushed, held-pushed}
+use Rattle.entries.specs.Layout.{layoutOf, headerOf, mostJournal, entryBytes, capacityOf, heldOf, freshJournal}
+use Rattle.entries.proofs.Versions.{header-most}
+use Rattle.entries.proofs.Written.{full-room, capacity-pushed, held-pushed}
+use Rattle.entries.proofs.Closed.{length-closed}
+use Rattle.journal.specs.Left.{Core, Buffers}
+use Rattle.journal.specs.Calls.{freshened, Freshened}
+use Rattle.journal.proofs.Left.{number-left, buffers-left}
+use Rattle.journal.proofs.Accepted.{fresh-number, fresh-done}
+use Rattle.steps.specs.Calls.{stepped, Stepped}
+use Rattle.steps.proofs.Accepted.{step-accepted}
 use Rattle.travel.proofs.Undone.{step-room}
-use Rattle.travel.proofs.Closed.{length-closed}
 use Rattle.session.specs.declared.Session.{Session}
 use Rattle.session.specs.Layout.{sessionOf, programPart}
 use Rattle.lines.specs.Line.{mostLine, sessionLine, Written}
 use Rattle.lines.proofs.Lines.{written-put}
-use Rattle.walks.specs.Output.{printed, linesFrom, walkJournal, sessionState, sessionLines, outputOf, lineRate, linesMost, mostOutput, outputTests, OutputWritten}
+use Rattle.walks.specs.Output.{printed, linesFrom, walkVersion, walkJournal, sessionBuffers, sessionCore, sessionLines, outputOf, lineRate, linesMost, mostOutput, outputTests, OutputWritten}
 use Rattle.walks.proofs.Printed.{printed-most, printed-done}
 
--- an accepted step's entry takes its bytes of what is left of the journal
-pub room-taken : (k : ℕ) (facts : Facts) (s : State) (program journal : List ℕ) → stepRefused k facts s program journal ≡ 0
-    → linesMost k (stepJournal k facts s program journal) + lineRate * entryBytes k ≡ linesMost k journal
-room-taken k facts s program journal e =
-    let a = step-accepted k facts s program journal e in
-    let entry = entryFor k (fieldsNow program journal) s in
-    let room = step-room k facts s program journal a in
-    rw (a .bytes, length-pushed k entry journal room, held-pushed k entry journal room ∙ add-one (heldOf journal))
-    (omega (arith, slot-next k (heldOf journal), entry-room k entry journal room))
+-- an accepted step's entry takes its bytes of the room for the lines to come
+pub room-taken : (c : Core) (program : List ℕ) (b : Buffers) → stepped c program b .number ≡ 0
+    → linesMost (c .k) (stepped c program b .after .journal) + lineRate * entryBytes (c .k) ≡ linesMost (c .k) (b .journal)
+room-taken c program b e =
+    let a = step-accepted c program b e in
+    let room = step-room c program b a in
+    let free = full-room (c .k) (b .journal) (a .room) (a .start .formed) in
+    rw (a .left, capacity-pushed (c .k) _ (b .journal) room, held-pushed (c .k) _ (b .journal) room)
+    (one-less (capacityOf (c .k) (b .journal)) (heldOf (b .journal)) (entryBytes (c .k)) free)
+  where
+    one-less : (most held bytes : ℕ) → held < most
+        → lineRate * ((most - (held + 1)) * bytes) + mostLine + lineRate * bytes ≡ lineRate * ((most - held) * bytes) + mostLine
+    one-less most held bytes h =
+        let more : most - held ≡ suc (most - (held + 1)) = omega arith in
+        rw (more, suc-mul) (omega arith)
 
-module _ (n k : ℕ) (facts : Facts) (program : List ℕ) (position : ℕ) (s after : State) (journal journal-after : List ℕ) (number : ℕ)
-    (step : Stepped k facts s program journal number after journal-after) where
+module _ (n : ℕ) (c : Core) (program : List ℕ) (position : ℕ) (b after : Buffers) (number : ℕ) (step : Stepped c program b number after) where
   -- after an accepted step the lines of the rest follow, and after a refused one none
   pub lines-more : number ≡ DONE
-      → linesFrom (suc n) k facts program position s journal ≡ printed k facts after program position number ++ linesFrom n k facts program (position + 1) after journal-after
+      → linesFrom (suc n) c program position b ≡ printed c (after .files) program position number ++ linesFrom n c program (position + 1) after
   unfolding linesFrom
-  lines-more done = rw (← step .files, ← step .bytes, ← step .answered, done)
+  lines-more done = rw (← step .leaves, done)
 
-  pub lines-end : (number ≡ DONE → ⊥) → linesFrom (suc n) k facts program position s journal ≡ printed k facts after program position number
+  pub lines-end : (number ≡ DONE → ⊥) → linesFrom (suc n) c program position b ≡ printed c (after .files) program position number
   unfolding linesFrom
   lines-end h =
-      rw (← step .files, ← step .bytes, ← step .answered, unless-refused number (linesFrom n k facts program (position + 1) after journal-after) [] h)
-      (append-nil (printed k facts after program position number))
+      rw (← step .leaves, unless-refused number (linesFrom n c program (position + 1) after) [] h)
+      (append-nil (printed c (after .files) program position number))
 
   -- what an accepted step prints takes no more than its entry's bytes make of the room for the lines to come
-  pub turn-room : number ≡ DONE → length (printed k facts after program position number) + linesMost k journal-after ≤ linesMost k journal
+  pub turn-room : number ≡ DONE → length (printed c (after .files) program position number) + linesMost (c .k) (after .journal) ≤ linesMost (c .k) (b .journal)
   turn-room done =
-      rw (step .bytes, done)
-      (omega (arith, printed-done k facts after program position, room-taken k facts s program journal (sym (step .answered) ∙ done)))
+      rw (buffers-left (step .leaves), done)
+      (omega (arith, printed-done c (stepped c program b .after .files) program position, room-taken c program b (sym (number-left (step .leaves)) ∙ done)))
 
-pub lines-none : (k : ℕ) (facts : Facts) (program : List ℕ) (position : ℕ) (s : State) (journal : List ℕ) → linesFrom 0 k facts program position s journal ≡ []
+pub lines-none : (c : Core) (program : List ℕ) (position : ℕ) (b : Buffers) → linesFrom 0 c program position b ≡ []
 unfolding linesFrom
-lines-none k facts program position s journal = refl
+lines-none c program position b = refl
 
--- so all lines are no longer than what is left of the journal makes them
-pub lines-most : (n k : ℕ) (facts : Facts) (program : List ℕ) (position : ℕ) (s : State) (journal : List ℕ) → length (linesFrom n k facts program position s journal) ≤ linesMost k journal
+-- so all lines are no longer than what the journal can still hold makes them
+pub lines-most : (n : ℕ) (c : Core) (program : List ℕ) (position : ℕ) (b : Buffers) → length (linesFrom n c program position b) ≤ linesMost (c .k) (b .journal)
 unfolding linesFrom
-lines-most zero k facts program position s journal = omega arith
-lines-most (suc n) k facts program position s journal =
-    let after = stepState k facts s program journal in
-    let journal-after = stepJournal k facts s program journal in
-    rw length-append
-    (go (stepRefused k facts s program journal) refl (lines-most n k facts program (position + 1) after journal-after))
+lines-most zero c program position b = omega arith
+lines-most (suc n) c program position b =
+    rw length-append (go (stepped c program b .number) refl (lines-most n c program (position + 1) (stepped c program b .after)))
   where
-    go : (number : ℕ) → stepRefused k facts s program journal ≡ number
-        → length (linesFrom n k facts program (position + 1) (stepState k facts s program journal) (stepJournal k facts s program journal)) ≤ linesMost k (stepJournal k facts s program journal)
-        → length (printed k facts (stepState k facts s program journal) program position number)
-        + length (unlessRefused number (linesFrom n k facts program (position + 1) (stepState k facts s program journal) (stepJournal k facts s program journal)) [])
-        ≤ linesMost k journal
-    go zero e rest = omega (arith, printed-done k facts (stepState k facts s program journal) program position, room-taken k facts s program journal e)
-    go (suc number) e rest = omega (arith, printed-most k facts (stepState k facts s program journal) program position (suc number))
+    go : (number : ℕ) → stepped c program b .number ≡ number
+        → length (linesFrom n c program (position + 1) (stepped c program b .after)) ≤ linesMost (c .k) (stepped c program b .after .journal)
+        → length (printed c (stepped c program b .after .files) program position number)
+        + length (unlessRefused number (linesFrom n c program (position + 1) (stepped c program b .after)) [])
+        ≤ linesMost (c .k) (b .journal)
+    go zero e rest = omega (arith, printed-done c (stepped c program b .after .files) program position, room-taken c program b e)
+    go (suc number) e rest = omega (arith, printed-most c (stepped c program b .after .files) program position (suc number))
 
 -- a walk's journal has all its room
 pub walk-room : (k : ℕ) → linesMost k (walkJournal k) ≤ mostOutput
 unfolding walkJournal
-walk-room k = omega (arith, length-closed k mostJournal [] tt (omega arith))
+walk-room k =
+    let size = length-closed walkVersion k mostJournal [] tt refl (omega (arith, header-most walkVersion, zero-mul (entryBytes k))) in
+    let journal = freshJournal walkVersion k mostJournal in
+    omega (
+      arith,
+      size,
+      div-mul-le-self (length journal - headerOf journal) (entryBytes k),
+      mul-le-mul-right (entryBytes k) (free (capacityOf k journal) (heldOf journal)),
+    )
+  where
+    free : (most held : ℕ) → most - held ≤ most
+    free most held = omega arith
 
 -- the output of a session, and of other input
 pub output-session : (input : List ℕ) (s : Session) → s ≡ sessionOf input → s .number ≡ DONE → outputOf input ≡ sessionLines s input
@@ -113,7 +128,7 @@ output-most input = go (sessionOf input .number)
     go : (n : ℕ) → length (unlessRefused n (sessionLines (sessionOf input) input) sessionLine) ≤ mostOutput
     go zero =
         let s = sessionOf input in
-        omega (arith, lines-most mostWords (s .k) (s .facts) (programPart s input) 0 (sessionState s input) (walkJournal (s .k)), walk-room (s .k))
+        omega (arith, lines-most mostWords (sessionCore s) (programPart s input) 0 (sessionBuffers s input), walk-room (s .k))
     go (suc n) = omega (arith, session-short)
 
 pub output-within : (input old new : List ℕ) (r : Answer) → OutputWritten input old new r → r .value ≤ length new
@@ -140,6 +155,10 @@ pub copied-is : (z room file : List ℕ) (size : ℕ) → size ≡ length z → 
 copied-is z room file size e f = rw (e, f, take-length z) (take-at z (drop (length z) room) (length z) refl)
 
 -- a journal of all the room that is made fresh is that of a walk
-pub fresh-is : (k : ℕ) (journal : List ℕ) → isLegal k ≡ true → mostJournal ≡ length journal → freshAfter k journal ≡ walkJournal k
+pub fresh-is : (k : ℕ) (journal : List ℕ) (r : ℕ) (after : List ℕ) → isLegal k ≡ true → mostJournal ≡ length journal → Freshened k walkVersion journal r after
+    → after ≡ walkJournal k
 unfolding walkJournal
-fresh-is k journal legal e = rw (← e, legal)
+fresh-is k journal r after legal e made =
+    let least : layoutOf walkVersion .header ≤ mostJournal = omega (arith, header-most walkVersion) in
+    let done : freshened k walkVersion journal .number ≡ DONE = fresh-number k walkVersion journal ∙ rw (← e, legal, le-leb _ _ least) in
+    buffers-left made ∙ fresh-done k walkVersion journal done ∙ rw (← e)

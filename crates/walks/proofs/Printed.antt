@@ -21,6 +21,7 @@ use Rattle.programs.specs.Word.{wordAt, wordsOf}
 use Rattle.digits.specs.Digits.{widthWithin, decimalWidth}
 use Rattle.digits.specs.Put.{Put}
 use Rattle.entries.specs.Layout.{entryBytes}
+use Rattle.journal.specs.Left.{Core}
 use Rattle.lines.specs.Line.{mostLine, stepLine, lineRefused, LineWritten}
 use Rattle.lines.proofs.Lines.{written-put}
 use Rattle.lines.proofs.Longest.{done-most, step-most}
@@ -33,59 +34,59 @@ line-room : (k : ℕ) (facts : Facts) (s : State) (program : List ℕ) (position
 unfolding lineRefused
 line-room k facts s program position number n h = rw (le-ltb _ _ h, le-ltb _ _ (le-refl mostLine))
 
-module _ (k : ℕ) (facts : Facts) (s : State) (program : List ℕ) (position : ℕ) where
+module _ (c : Core) (s : State) (program : List ℕ) (position : ℕ) where
   -- no longer than the longest line
-  pub printed-most : (number : ℕ) → length (printed k facts s program position number) ≤ mostLine
+  pub printed-most : (number : ℕ) → length (printed c s program position number) ≤ mostLine
   unfolding printed
-  printed-most number = go (lineRefused k facts s program position number mostLine) refl
+  printed-most number = go (lineRefused (c .k) (c .facts) s program position number mostLine) refl
     where
-      go : (n : ℕ) → lineRefused k facts s program position number mostLine ≡ n → length (unlessRefused n (stepLine k s program position number) []) ≤ mostLine
+      go : (n : ℕ) → lineRefused (c .k) (c .facts) s program position number mostLine ≡ n → length (unlessRefused n (stepLine (c .k) s program position number) []) ≤ mostLine
       go zero e =
-          let r = line-ready k s program position mostLine facts number e in
-          step-most position (omega (arith, r .inside)) k s program number (legal-most k (r .files .legal))
+          let r = line-ready (c .k) s program position mostLine (c .facts) number e in
+          step-most position (omega (arith, r .inside)) (c .k) s program number (legal-most (c .k) (r .files .legal))
       go (suc n) e = omega arith
 
   -- and of an accepted step so many bytes for each of its entry's
-  pub printed-done : length (printed k facts s program position DONE) ≤ lineRate * entryBytes k
+  pub printed-done : length (printed c s program position DONE) ≤ lineRate * entryBytes (c .k)
   unfolding printed widthWithin decimalWidth
-  printed-done = go (lineRefused k facts s program position DONE mostLine) refl
+  printed-done = go (lineRefused (c .k) (c .facts) s program position DONE mostLine) refl
     where
-      go : (n : ℕ) → lineRefused k facts s program position DONE mostLine ≡ n → length (unlessRefused n (stepLine k s program position DONE) []) ≤ lineRate * entryBytes k
+      go : (n : ℕ) → lineRefused (c .k) (c .facts) s program position DONE mostLine ≡ n → length (unlessRefused n (stepLine (c .k) s program position DONE) []) ≤ lineRate * entryBytes (c .k)
       go zero e =
-          let r = line-ready k s program position mostLine facts DONE e in
-          omega (arith, done-most position (omega (arith, r .inside)) k s program, legal-least k (r .files .legal))
+          let r = line-ready (c .k) s program position mostLine (c .facts) DONE e in
+          omega (arith, done-most position (omega (arith, r .inside)) (c .k) s program, legal-least (c .k) (r .files .legal))
       go (suc n) e = omega arith
 
   -- at the program's end nothing is printed
-  pub end-silent : (number : ℕ) → wordsOf (length program) ≤ position → printed k facts s program position number ≡ []
+  pub end-silent : (number : ℕ) → wordsOf (length program) ≤ position → printed c s program position number ≡ []
   unfolding printed
   end-silent number h =
-      unless-refused (lineRefused k facts s program position number mostLine) (stepLine k s program position number) []
-      (λ e. omega (arith, line-ready k s program position mostLine facts number e .below))
+      unless-refused (lineRefused (c .k) (c .facts) s program position number mostLine) (stepLine (c .k) s program position number) []
+      (λ e. omega (arith, line-ready (c .k) s program position mostLine (c .facts) number e .below))
 
   -- before it a step's line is printed, whether the step was refused or had an accepted word
-  module _ (files : Sized k s) (whole : isProgram (length program) ≡ true) (below : position < wordsOf (length program)) where
-    line-printed : (number : ℕ) → lineRefused k facts s program position number mostLine ≡ DONE → printed k facts s program position number ≡ stepLine k s program position number
+  module _ (files : Sized (c .k) s) (whole : isProgram (length program) ≡ true) (below : position < wordsOf (length program)) where
+    line-printed : (number : ℕ) → lineRefused (c .k) (c .facts) s program position number mostLine ≡ DONE → printed c s program position number ≡ stepLine (c .k) s program position number
     unfolding printed
-    line-printed number e = ap (λ (n : ℕ). unlessRefused n (stepLine k s program position number) []) e
+    line-printed number e = ap (λ (n : ℕ). unlessRefused n (stepLine (c .k) s program position number) []) e
 
-    pub refused-printed : (number : ℕ) → (number ≡ DONE → ⊥) → printed k facts s program position number ≡ stepLine k s program position number
+    pub refused-printed : (number : ℕ) → (number ≡ DONE → ⊥) → printed c s program position number ≡ stepLine (c .k) s program position number
     refused-printed number h =
         line-printed number
-        (refused-passes k s program position mostLine facts number (placed-right k s program position mostLine files whole below (le-refl mostLine)) h)
+        (refused-passes (c .k) s program position mostLine (c .facts) number (placed-right (c .k) s program position mostLine files whole below (le-refl mostLine)) h)
 
-    pub done-printed : numberOf (decodedOn facts (wordAt program position)) ≡ DONE → printed k facts s program position DONE ≡ stepLine k s program position DONE
+    pub done-printed : numberOf (decodedOn (c .facts) (wordAt program position)) ≡ DONE → printed c s program position DONE ≡ stepLine (c .k) s program position DONE
     done-printed accepted =
         line-printed DONE
-        (word-decides k s program position mostLine facts DONE (placed-right k s program position mostLine files whole below (le-refl mostLine)) refl
-        (wordAt program position) (decodedOn facts (wordAt program position)) refl refl
+        (word-decides (c .k) s program position mostLine (c .facts) DONE (placed-right (c .k) s program position mostLine files whole below (le-refl mostLine)) refl
+        (wordAt program position) (decodedOn (c .facts) (wordAt program position)) refl refl
         ∙ accepted)
 
 -- a turn writes what is printed
-pub turn-put : (k : ℕ) (facts : Facts) (s : State) (program : List ℕ) (position number : ℕ) (old new : List ℕ) (r : Answer) → mostLine ≤ length old
-    → LineWritten k facts s program position number old new r → Put old 0 (printed k facts s program position number) new (r .value)
+pub turn-put : (c : Core) (s : State) (program : List ℕ) (position number : ℕ) (old new : List ℕ) (r : Answer) → mostLine ≤ length old
+    → LineWritten (c .k) (c .facts) s program position number old new r → Put old 0 (printed c s program position number) new (r .value)
 unfolding printed
-turn-put k facts s program position number old new r h w =
-    written-put (lineRefused k facts s program position number mostLine) (stepLine k s program position number) old new r
-    (rw (line-room k facts s program position number (length old) h) at w)
-    (omega (arith, printed-most k facts s program position number))
+turn-put c s program position number old new r h w =
+    written-put (lineRefused (c .k) (c .facts) s program position number mostLine) (stepLine (c .k) s program position number) old new r
+    (rw (line-room (c .k) (c .facts) s program position number (length old) h) at w)
+    (omega (arith, printed-most c s program position number))

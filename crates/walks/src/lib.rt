@@ -11,6 +11,7 @@ ghost use Rattle.machine.specs.Size.{mostLength, mostWords, vectorFile};
 ghost use Rattle.registers.specs.State.{state};
 ghost use Rattle.digits.specs.Put.{Put};
 ghost use Rattle.entries.specs.Layout.{mostJournal};
+ghost use Rattle.journal.specs.Left.{coreOf, buffersOf};
 ghost use Rattle.lines.specs.Line.{mostLine};
 ghost use Rattle.walks.specs.Output.{linesFrom, linesMost, walkJournal, sessionLines, OutputWritten, Turned, Lent, Given};
 
@@ -42,9 +43,8 @@ fn step_line(
     position: usize,
 ) -> Turn
     requires { ⌜ at + mostLine ≤ length (now out) ⌝ }
-    ensures { λ r. ⌜ Turned k facts (state (now (z .entry)) (now (p .entry))) (now (program .entry)) (now (journal .entry)) position at (now (out .entry)) r
-        (state (now (z .exit)) (now (p .entry)))
-        (now (journal .exit))
+    ensures { λ r. ⌜ Turned (coreOf k facts) (now (program .entry)) (buffersOf (state (now (z .entry)) (now (p .entry))) (now (journal .entry))) position at (now (out .entry)) r
+        (buffersOf (state (now (z .exit)) (now (p .entry))) (now (journal .exit)))
         (now (out .exit)) ⌝ }
 {
     let number = steps::step(k, facts, z, p, program, journal);
@@ -76,7 +76,7 @@ fn write_lines(
 ) -> usize
     requires { ⌜ linesMost k (now journal) ≤ length (now out) ⌝ }
     ensures { λ r. ⌜ Put (now (out .entry)) 0
-        (linesFrom mostWords k facts (now (program .entry)) 0 (state (now (z .entry)) (now (p .entry))) (now (journal .entry)))
+        (linesFrom mostWords (coreOf k facts) (now (program .entry)) 0 (buffersOf (state (now (z .entry)) (now (p .entry))) (now (journal .entry))))
         (now (out .exit))
         r ⌝ }
 {
@@ -111,7 +111,7 @@ fn file_room() -> [u8; MOST_FILE]
 fn write_walk(out: &mut [u8], k: usize, facts: Facts, z: &[u8], p: &[u8], program: &[u8]) -> usize
     requires { ⌜ Lent k (now z) (now p) (now out) ⌝ }
     ensures { λ r. ⌜ Put (now (out .entry)) 0
-        (linesFrom mostWords k facts (now (program .entry)) 0 (state (now (z .entry)) (now (p .entry))) (walkJournal k))
+        (linesFrom mostWords (coreOf k facts) (now (program .entry)) 0 (buffersOf (state (now (z .entry)) (now (p .entry))) (walkJournal k)))
         (now (out .exit))
         r ⌝ }
 {

@@ -2,7 +2,7 @@
 -- lies within the destination.
 -- Assumes nothing.
 use Prim.Native.Nat.{ℕ, _+_, _*_, _≤_, _<_}
-use mathlib.Core.Path.{_≡_}
+use mathlib.Core.Path.{_≡_, sym, _∙_}
 use mathlib.Core.List.{List, []}
 use Rattle.machine.specs.Size.{vectors, vectorBytes}
 use Rattle.parts.specs.Number.{withNumber}
@@ -16,11 +16,12 @@ use Rattle.rows.specs.declared.WideFamily.{WideFamily}
 use Rattle.rows.specs.declared.WideFamily.the-variants.{Pairwise, Widening}
 use Rattle.sums.specs.Sums.{Governs}
 use Rattle.sums.proofs.Widths.{width-legal}
-use Rattle.meaning.specs.Terms.{sumOf, pairwiseTerms, wideningTerms}
+use Rattle.meaning.specs.Terms.{Operand1, Operand2, Old, sumOf, pairwiseTerms, wideningTerms}
 use Rattle.meaning.specs.Execute.{integerAfter, laneWritten}
 use Rattle.meaning.specs.Needs.{Executable}
 use Rattle.elements.specs.Needs.{HalfLanes}
 use Rattle.widens.specs.Needs.{WideTurn}
+use Rattle.meaning.proofs.Effects.{operand-bytes, mask-bytes}
 use Rattle.meaning.proofs.Sizes.{vector-in, vector-length, governs, wide-halves}
 use Rattle.widens.proofs.InPlace.{lane-ends}
 
@@ -56,8 +57,10 @@ module _ (ps : Parameters) (w e : ℕ) (f : Fields) (k : ℕ) (s : State) where
   pub pairwise-fed : (mask first old : List ℕ) → WideTurn Pairwise ps w e f k s → mask ≡ predicateOf k (f .g) (s .p) → first ≡ vectorOf k (f .n) (s .z)
       → old ≡ vectorOf k (f .d) (s .z)
       → sumOf (record { operand1 = first; operand2 = []; old = old }) (pairwiseTerms (ps .signed) w mask e) ≡ integerAfter f k s e
-  pairwise-fed mask first old t m a b = rw (t .lanes .word .is, t .lanes .parameters, t .lanes .width, m, a, b)
+  pairwise-fed mask first old t m a b =
+      rw (t .lanes .word .is, t .lanes .parameters, t .lanes .width, m ∙ sym (mask-bytes f k s), a ∙ sym (operand-bytes f k s Operand1), b ∙ sym (operand-bytes f k s Old))
 
   pub widening-fed : (first second : List ℕ) → WideTurn Widening ps w e f k s → first ≡ vectorOf k (f .n) (s .z) → second ≡ vectorOf k (f .m) (s .z)
       → sumOf (record { operand1 = first; operand2 = second; old = [] }) (wideningTerms ps w e) ≡ integerAfter f k s e
-  widening-fed first second t a b = rw (t .lanes .word .is, t .lanes .parameters, t .lanes .width, a, b)
+  widening-fed first second t a b =
+      rw (t .lanes .word .is, t .lanes .parameters, t .lanes .width, a ∙ sym (operand-bytes f k s Operand1), b ∙ sym (operand-bytes f k s Operand2))

@@ -40,8 +40,9 @@ use Rattle.meaning.specs.Execute.{operandsOf, maskOf, integerAfter, laneWritten
 use Rattle.meaning.specs.Needs.{ExecutableAs}
 use Rattle.widens.specs.Needs.{WideLanes, WideTurn}
 use Rattle.elements.proofs.Halves.{half-taken, element-same, half-same}
-use Rattle.meaning.proofs.Padded.{padded-full}
-use Rattle.meaning.proofs.Sizes.{whole, k-most, wide-halves, vector-in, vector-length, second-most}
+use Rattle.registers.proofs.Padded.{padded-full}
+use Rattle.meaning.proofs.Effects.{sourceField, source-below, operand-bytes, mask-bytes, executed-vectors}
+use Rattle.meaning.proofs.Sizes.{whole, k-most, wide-halves, vector-in, vector-length}
 
 -- a part written right behind another is one part
 with-next : (a n m : ℕ) (e g l : List ℕ) → a + n + m ≤ length l → length e ≡ n → withPart (a + n) m g (withPart a n e l) ≡ withPart a (n + m) (e ++ g) l
@@ -161,14 +162,16 @@ module _ (wide : WideFamily) (f : Fields) (k : ℕ) (s : State) (x : ExecutableA
         }
 
     operand : (source : Source) → SameLane w e (operandOf (operandsOf f k (state (fileAfter f k s e) (s .p))) source) (operandOf (operandsOf f k s) source)
-    operand Operand1 = reads (f .n) (x .word .fields .n)
-    operand Operand2 = reads (f .m) (second-most f k s (x .word))
-    operand Old = reads (f .d) (x .word .fields .d)
+    operand source =
+        rw (operand-bytes f k (state (fileAfter f k s e) (s .p)) source, operand-bytes f k s source)
+        (reads (sourceField f source) (source-below f k s (x .word) source))
 
     -- so it is fed by the same
     same-integer : integerAfter f k (state (fileAfter f k s e) (s .p)) e ≡ integerAfter f k s e
     same-integer =
         fed (state (fileAfter f k s e) (s .p)) e
+        ∙ ap (λ (mask : List ℕ). sumOf (operandsOf f k (state (fileAfter f k s e) (s .p))) (wideTerms wide (formOf (f .row) .parameters) w mask e))
+        (mask-bytes f k (state (fileAfter f k s e) (s .p)) ∙ sym (mask-bytes f k s))
         ∙ lane-only wide (formOf (f .row) .parameters) w e (maskOf f k s) (operandsOf f k (state (fileAfter f k s e) (s .p))) (operandsOf f k s)
         (wide-halves f k s (x .word) wide (x .is))
         operand
@@ -204,7 +207,7 @@ module _ (wide : WideFamily) (f : Fields) (k : ℕ) (s : State) (x : ExecutableA
 
   after-all : fileAfter f k s (vectorBytes k / w) ≡ executed f k s .z
   after-all =
-      rw (x .is)
+      rw (executed-vectors f k s, x .is)
       (ap₂ (λ (n : ℕ) (lanes : List ℕ). withPart (place (f .d)) n lanes (s .z)) filled
       (sym (padded-full (vectorBytes k) _ (length-lanes w 0 (vectorBytes k / w) _ ∙ filled))))
     where

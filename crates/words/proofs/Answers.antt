@@ -43,7 +43,7 @@ number-known word t r =
     (decoded-judged word (rw found (r .known)) ∙ ap (λ (i : ℕ). judged (fieldsAt i word)) found)
     ∙ judged-number (fieldsAt (r .row) word) t (r .sized)
 
--- and of one of none
+-- the number of a word of no row
 pub number-unknown : (word : ℕ) → ((i : ℕ) → i < rows → matches (rowAt i) word ≡ false) → numberOf (decoded word) ≡ UNKNOWN
 number-unknown word none = go (ltb (rowOf word) rows) refl
   where

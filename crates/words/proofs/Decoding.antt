@@ -19,7 +19,7 @@ use Rattle.rows.specs.declared.Family.the-variants.{Low, Wide}
 use Rattle.rows.specs.declared.LowFamily.the-variants.{Reduction, Segment, Long}
 use Rattle.rows.specs.declared.WideFamily.the-variants.{Pairwise, Widening}
 
--- where no row matches, and where one does
+-- what a word decodes to where no row matches it, and where one does
 pub decoded-unknown : (word : ℕ) → rows ≤ rowOf word → decoded word ≡ Unknown
 unfolding decoded
 decoded-unknown word h = rw (le-ltb _ _ h)
@@ -37,7 +37,7 @@ digits-most (Low Long) = (omega arith, omega arith, omega arith)
 digits-most (Wide Pairwise) = (omega arith, omega arith, omega arith)
 digits-most (Wide Widening) = (omega arith, omega arith, omega arith)
 
--- so much is any of them below
+-- the governing predicate, the second source and Q of any family are below what so many digits hold
 pub governing-below : (family : Family) {x : ℕ} → x < 2 ^ governingDigits family → x < 2 ^ predicateDigits
 governing-below family h = lt-of-lt-of-le h (pow-mono (digits-most family .0))
 
@@ -53,7 +53,7 @@ pub record Accepted (word : ℕ) (f : Fields) : Type 0 where
   pub fields : f ≡ fieldsAt (rowOf word) word
   pub allowed : allows (formOf (f .row)) (f .q) (f .size) ≡ true
 
--- fields that are judged to be those of a word
+-- fields that are judged to be those of a word are that word's, and their size is allowed
 judged-word : (f g : Fields) (t : Bool) → allows (formOf (f .row)) (f .q) (f .size) ≡ t → judged f ≡ Word g → (f ≡ g) × (t ≡ true)
 judged-word f g true e h = (let k : Word f ≡ Word g = rw e at h in cc, refl)
 judged-word f g false e h = let k : Undefined ≡ Word g = rw e at h in (cc, cc)

@@ -59,7 +59,7 @@ laidOut i =
     both (eqb (digitsAnd wordDigits (rowValue i) (rowMask i)) (rowValue i))
     (both (eqb (total (masksOf i)) (2 ^ wordDigits - 1)) (disjoint wordDigits (masksOf i)))
 
--- it is so in each row of the table
+-- in each row of the table the value lies within its mask, and the masks have all digits, none twice
 pub all-laid-out : every rows laidOut ≡ true
 unfolding laidOut disjoint digitsAnd rowAt
 all-laid-out = refl
@@ -134,7 +134,7 @@ numbers-tell f g row e = λ t. record {
   q = ap (λ (l : List ℕ). getD l 5 0) e t;
 }
 
--- what follows of fields in range
+-- fields in range: the word that they make decodes to them
 module _ (f : Fields) (r : InRange f) where
   numbers-fit : Fits wordDigits (placesOf (familyOf (f .row))) (numbersOf f)
   numbers-fit =
@@ -144,28 +144,28 @@ module _ (f : Fields) (r : InRange f) where
         (omega arith, r .n, (omega arith, r .d, (omega arith, r .g, (omega arith, r .m, (omega arith, r .q, tt))))),
       )
 
-  -- they lie within the masks of their row
+  -- fields in range and the row's value lie within the masks of their row
   parts-within : Within wordDigits (partsOf f) (masksOf (f .row))
   parts-within = (value-within (f .row) (r .row), fields-within wordDigits (placesOf (familyOf (f .row))) (numbersOf f) numbers-fit)
 
-  -- so the word that they make has them under its masks
+  -- the word that fields in range make has them under the row's masks
   under-encoded : under wordDigits (encoded f) (masksOf (f .row)) ≡ partsOf f
   under-encoded =
       ap (λ (w : ℕ). under wordDigits w (masksOf (f .row))) (encoded-parts f)
       ∙ total-under wordDigits (partsOf f) (masksOf (f .row)) (laid-out (f .row) (r .row) .apart) parts-within
 
-  -- it is a word
+  -- what fields in range make is a word
   pub encoded-below : encoded f < 2 ^ wordDigits
   encoded-below =
       rw (encoded-parts f ∙ sym (total-within wordDigits (partsOf f) (masksOf (f .row)) (laid-out (f .row) (r .row) .apart) parts-within))
       (and-below wordDigits (total (partsOf f)) (total (masksOf (f .row))))
 
-  -- of the fields' row
+  -- the word that fields in range make is of their row
   encoded-matches : matches (rowAt (f .row)) (encoded f) ≡ true
   unfolding matches
   encoded-matches = eq-eqb _ _ (ap (λ (l : List ℕ). getD l 0 0) under-encoded)
 
-  -- with the fields that it was made of
+  -- the word that fields in range make has these fields
   numbers-encoded : numbersOf (fieldsAt (f .row) (encoded f)) ≡ numbersOf f
   numbers-encoded =
       placed-one wordDigits (placesOf (familyOf (f .row))) (encoded f) (numbersOf f) numbers-fit
@@ -174,7 +174,7 @@ module _ (f : Fields) (r : InRange f) where
   fields-encoded : fieldsAt (f .row) (encoded f) ≡ f
   fields-encoded = numbers-tell (fieldsAt (f .row) (encoded f)) f refl numbers-encoded
 
-  -- so it decodes to them
+  -- the word that fields in range make decodes to them
   pub decoded-encoded : decoded (encoded f) ≡ Word f
   decoded-encoded =
       let found = row-found (f .row) (encoded f) (r .row) encoded-matches in

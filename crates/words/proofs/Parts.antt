@@ -21,12 +21,12 @@ abbrev pub total : List ℕ → ℕ
 total [] = 0
 total (m ∷ ms) = m + total ms
 
--- no two of these masks have a digit in common
+-- no two of some masks have a digit in common
 unfoldable pub disjoint : ℕ → List ℕ → Bool
 disjoint n [] = true
 disjoint n (m ∷ ms) = both (eqb (digitsAnd n m (total ms)) 0) (disjoint n ms)
 
--- the first mask of some, against the rest
+-- where no two masks have a digit in common, neither have the first and the others' sum, nor two of the others
 first-apart : (n m : ℕ) (ms : List ℕ) → disjoint n (m ∷ ms) ≡ true → digitsAnd n m (total ms) ≡ 0
 unfolding disjoint
 first-apart n m ms e = eqb-true _ _ (both-left _ (disjoint n ms) e)
@@ -35,19 +35,19 @@ rest-disjoint : (n m : ℕ) (ms : List ℕ) → disjoint n (m ∷ ms) ≡ true �
 unfolding disjoint
 rest-disjoint n m ms e = both-right (eqb (digitsAnd n m (total ms)) 0) _ e
 
--- the digits of a word under each of the masks
+-- the digits of a word under each of some masks
 abbrev pub under : ℕ → ℕ → List ℕ → List ℕ
 under n w [] = []
 under n w (m ∷ ms) = digitsAnd n w m ∷ under n w ms
 
--- the digits under all the masks are the sum of those under each
+-- the digits of a word under the sum of some masks are the sum of those under each
 pub under-total : (n w : ℕ) (ms : List ℕ) → disjoint n ms ≡ true → digitsAnd n w (total ms) ≡ total (under n w ms)
 under-total n w [] e = and-none n w
 under-total n w (m ∷ ms) e =
     and-add n w m (total ms) (first-apart n m ms e)
     ∙ ap (λ (x : ℕ). digitsAnd n w m + x) (under-total n w ms (rest-disjoint n m ms e))
 
--- the numbers lie within their masks, one for each
+-- numbers lie within masks, one within each
 abbrev pub Within : ℕ → List ℕ → List ℕ → Type 0
 Within n [] [] = Unit
 Within n [] (m ∷ ms) = ⊥
@@ -64,7 +64,7 @@ first-none : (n p m : ℕ) (ms : List ℕ) → disjoint n (m ∷ ms) ≡ true �
 first-none n p m ms e w =
     and-comm n p (total ms) ∙ and-apart n (total ms) p m w (and-comm n (total ms) m ∙ first-apart n m ms e)
 
--- so their sum lies within the sum of the masks
+-- the sum of numbers that lie within masks, one within each, lies within the sum of the masks
 pub total-within : (n : ℕ) (ps ms : List ℕ) → disjoint n ms ≡ true → Within n ps ms → digitsAnd n (total ps) (total ms) ≡ total ps
 total-within n [] [] e w = and-none n 0
 total-within n [] (m ∷ ms) e w = absurd w
@@ -79,7 +79,7 @@ total-within n (p ∷ ps) (m ∷ ms) e w =
     ∙ ap₂ (λ (x y : ℕ). x + y) (and-add-left n m p (total ps) apart) (and-add-left n (total ms) p (total ps) apart)
     ∙ omega (arith, w .0, inner, none, other)
 
--- a number with no digit under the masks changes nothing there
+-- a number with no digit under some masks, added to another, changes nothing under them
 under-more : (n p q : ℕ) (ms : List ℕ) → disjoint n ms ≡ true → digitsAnd n p q ≡ 0 → digitsAnd n p (total ms) ≡ 0
     → under n (p + q) ms ≡ under n q ms
 under-more n p q [] e h none = refl
@@ -89,7 +89,7 @@ under-more n p q (m ∷ ms) e h none =
     (and-add-left n m p q h ∙ omega (arith, parts))
     (under-more n p q ms (rest-disjoint n m ms e) h (omega (arith, parts)))
 
--- and what it has under each mask is that mask's number
+-- what the sum of numbers within masks has under each mask is the number within it
 pub total-under : (n : ℕ) (ps ms : List ℕ) → disjoint n ms ≡ true → Within n ps ms → under n (total ps) ms ≡ ps
 total-under n [] [] e w = refl
 total-under n [] (m ∷ ms) e w = absurd w
@@ -111,7 +111,7 @@ Place = ℕ × ℕ
 abbrev pub fieldMask : Place → ℕ
 fieldMask p = (2 ^ (p .1) - 1) * 2 ^ (p .0)
 
--- what a word has under it is the field, at its place
+-- what a word has under a field's mask is the field, at its place
 under-field : (n : ℕ) (p : Place) (w : ℕ) → w < 2 ^ n → digitsAnd n w (fieldMask p) ≡ field (p .0) (p .1) w * 2 ^ (p .0)
 under-field n p w h =
     sym (and-digits n w _ h) ∙ ap (λ (m : ℕ). bitAnd w m) (sym (high-ones (p .1) (p .0))) ∙ and-high w (p .1) (p .0)
@@ -133,7 +133,7 @@ placed (p ∷ ps) (x ∷ xs) = x * 2 ^ (p .0) ∷ placed ps xs
 placed [] xs = []
 placed (p ∷ ps) [] = []
 
--- what a word has under the fields' masks is its fields, at their places
+-- what a word has under the masks of some fields is these fields, at their places
 pub under-fields : (n : ℕ) (ps : List Place) (w : ℕ) → w < 2 ^ n → under n w (map fieldMask ps) ≡ placed ps (fieldsIn w ps)
 under-fields n [] w h = refl
 under-fields n (p ∷ ps) w h = ap₂ (λ (x : ℕ) (xs : List ℕ). x ∷ xs) (under-field n p w h) (under-fields n ps w h)
@@ -145,14 +145,14 @@ Fits n [] (x ∷ xs) = ⊥
 Fits n (p ∷ ps) [] = ⊥
 Fits n (p ∷ ps) (x ∷ xs) = (p .1 + p .0 ≤ n) × (x < 2 ^ (p .1)) × Fits n ps xs
 
--- lie within the fields' masks
+-- numbers of their fields' digits, each at its field's place, lie within the fields' masks
 pub fields-within : (n : ℕ) (ps : List Place) (xs : List ℕ) → Fits n ps xs → Within n (placed ps xs) (map fieldMask ps)
 fields-within n [] [] w = tt
 fields-within n [] (x ∷ xs) w = absurd w
 fields-within n (p ∷ ps) [] w = absurd w
 fields-within n (p ∷ ps) (x ∷ xs) w = (field-within n p x (w .0) (w .1), fields-within n ps xs (w .2))
 
--- and are told by where they stand
+-- numbers of their fields' digits are told by what stands at the fields' places
 pub placed-one : (n : ℕ) (ps : List Place) (w : ℕ) (xs : List ℕ) → Fits n ps xs → placed ps (fieldsIn w ps) ≡ placed ps xs → fieldsIn w ps ≡ xs
 placed-one n [] w [] fits e = refl
 placed-one n [] w (x ∷ xs) fits e = absurd fits

@@ -14,7 +14,7 @@ use Rattle.words.specs.declared.Fields.{Fields}
 use Rattle.words.specs.declared.Decoded.{Decoded}
 use Rattle.words.specs.declared.Decoded.the-variants.{Unknown, Undefined, Word}
 
--- the fields of a word of the row at this place; one that the row does not have is 0
+-- the fields of a word of the row at a place; a field that the row does not have is 0
 abbrev pub fieldsAt : ℕ → ℕ → Fields
 fieldsAt i word =
     record {
@@ -31,7 +31,7 @@ abbrev pub pickDecoded : Bool → Decoded → Decoded → Decoded
 pickDecoded true a b = a
 pickDecoded false a b = b
 
--- the fields, where the size is allowed
+-- what fields decode to: themselves where their row allows their size, else UNDEFINED
 abbrev pub judged : Fields → Decoded
 judged f = pickDecoded (allows (formOf (f .row)) (f .q) (f .size)) (Word f) Undefined
 
@@ -39,7 +39,7 @@ judged f = pickDecoded (allows (formOf (f .row)) (f .q) (f .size)) (Word f) Unde
 unfoldable pub decoded : ℕ → Decoded
 decoded word = pickDecoded (ltb (rowOf word) rows) (judged (fieldsAt (rowOf word) word)) Unknown
 
--- the paper's number of each answer
+-- the paper's number of what a word decodes to
 abbrev pub numberOf : Decoded → ℕ
 numberOf Unknown = UNKNOWN
 numberOf Undefined = UNDEFINED
@@ -49,7 +49,7 @@ numberOf (Word f) = DONE
 abbrev pub wordTests : Decoded → List Test
 wordTests w = test UNKNOWN (eqb (numberOf w) UNKNOWN) ∷ test UNDEFINED (eqb (numberOf w) UNDEFINED) ∷ []
 
--- the fields that an answer carries; zeros with a refusal
+-- the fields of what a word decodes to, which are zeros where it is refused
 abbrev pub noFields : Fields
 noFields = record { row = 0; size = 0; n = 0; d = 0; g = 0; m = 0; q = 0 }
 

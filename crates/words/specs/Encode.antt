@@ -8,7 +8,7 @@ use Rattle.words.specs.Field.{sizePlace, sourcePlace, destinationPlace, 
 use Rattle.words.specs.Field.{sizeDigits, registerDigits, governingDigits, secondDigits, qDigits}
 use Rattle.words.specs.declared.Fields.{Fields}
 
--- the row's value plus each field at its place
+-- the word that fields make: the row's value plus each field at its place
 unfoldable pub encoded : Fields → ℕ
 encoded f =
     rowValue (f .row)
@@ -16,7 +16,7 @@ encoded f =
     + (f .n * 2 ^ sourcePlace
     + (f .d * 2 ^ destinationPlace + (f .g * 2 ^ governingPlace + (f .m * 2 ^ secondPlace + f .q * 2 ^ qPlace)))))
 
--- fields of a row of the table: each of its digits, and of an allowed size
+-- fields that some word has: a row of the table, numbers of as many digits as each field has there, and a size that the row allows
 pub record InRange (f : Fields) : Type 0 where
   pub row : f .row < rows
   pub size : f .size < 2 ^ sizeDigits

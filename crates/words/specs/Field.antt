@@ -7,7 +7,7 @@ use Rattle.rows.specs.declared.Family.the-variants.{Low, Wide}
 use Rattle.rows.specs.declared.LowFamily.the-variants.{Reduction, Segment, Long}
 use Rattle.rows.specs.declared.WideFamily.the-variants.{Pairwise, Widening}
 
--- the lowest digit: size, source, destination, governing predicate, second source, Q
+-- the lowest digit of each field: size, source, destination, governing predicate, second source, Q
 abbrev pub sizePlace : ℕ
 sizePlace = 22
 
@@ -26,7 +26,7 @@ secondPlace = 16
 abbrev pub qPlace : ℕ
 qPlace = 30
 
--- the digits of the size, of a register's number, and of a governing predicate's
+-- how many digits the size has, a register's number, and a governing predicate's
 abbrev pub sizeDigits : ℕ
 sizeDigits = 2
 
@@ -36,7 +36,7 @@ registerDigits = 5
 abbrev pub predicateDigits : ℕ
 predicateDigits = 3
 
--- by family: the digits of the governing predicate, of the second source, and of Q
+-- how many digits the governing predicate, the second source and Q have in the words of a family
 abbrev pub governingDigits : Family → ℕ
 governingDigits (Low Reduction) = predicateDigits
 governingDigits (Low Segment) = predicateDigits
@@ -55,7 +55,7 @@ qDigits (Low Segment) = 0
 qDigits (Low Long) = 1
 qDigits (Wide wide) = 0
 
--- a number of digits, fewer than a word has
+-- a count r of digits is n, and fewer than a word has
 pub record Counted (n r : ℕ) : Type 0 where
   pub is : r ≡ n
   pub small : r < wordDigits

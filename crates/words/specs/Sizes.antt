@@ -9,7 +9,7 @@ use Rattle.rows.specs.declared.Family.the-variants.{Low, Wide}
 use Rattle.rows.specs.declared.LowFamily.{LowFamily}
 use Rattle.rows.specs.declared.LowFamily.the-variants.{Reduction, Segment, Long}
 
--- a size from the least to the most
+-- whether a size lies from the least to the most
 abbrev pub within : ℕ → ℕ → ℕ → Bool
 within least most size = both (leb least size) (leb size most)
 

@@ -33,7 +33,7 @@ pub enum Decoded {
     Word(Fields),
 }
 
-// The digits of the size, of a register's number, and of a governing predicate's.
+// How many digits the size has, a register's number, and a governing predicate's.
 pub const SIZE_DIGITS: u32 = 2;
 
 pub const REGISTER_DIGITS: u32 = 5;
@@ -50,7 +50,7 @@ fn is_within(least: usize, most: usize, size: usize) -> bool
     size <= most
 }
 
-// The long forms' sizes: size:Q = '100' is UNDEFINED, and so is size = '11'.
+// Whether a long form allows a size: size:Q = '100' is UNDEFINED, and so is size = '11'.
 fn allows_long(q: usize, size: usize) -> bool
     requires { ⌜ (size < 2 ^ sizeDigits) × (q < 2) ⌝ }
     ensures { λ r. ⌜ r ≡ allowsLong q size ⌝ }
@@ -61,7 +61,7 @@ fn allows_long(q: usize, size: usize) -> bool
     size != 0b11
 }
 
-// The most size of a reduction.
+// The most size of a reduction, by whether it is signed.
 fn most_reduced(signed: bool) -> usize
     ensures { λ r. ⌜ r ≡ mostReduced signed ⌝ }
 {
@@ -109,7 +109,7 @@ pub fn governing_digits(family: Family) -> u32
     }
 }
 
-// How many the second source has.
+// How many digits the second source has in a family's words.
 pub fn second_digits(family: Family) -> u32
     ensures { λ r. ⌜ Counted (secondDigits family) r ⌝ }
 {
@@ -122,7 +122,7 @@ pub fn second_digits(family: Family) -> u32
     }
 }
 
-// How many Q has.
+// How many digits Q has in a family's words.
 fn q_digits(family: Family) -> u32
     ensures { λ r. ⌜ Counted (qDigits family) r ⌝ }
 {
@@ -178,7 +178,7 @@ pub fn decode(word: u32) -> Decoded
     }
 }
 
-// The number that is answered with it.
+// The number that is answered with what a word decodes to.
 pub fn number_of(decoded: Decoded) -> u8
     ensures { λ r. ⌜ r ≡ numberOf decoded ⌝ }
 {

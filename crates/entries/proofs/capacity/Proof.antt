@@ -5,8 +5,7 @@ use Rattle.entries.proofs.capacity.Statement.{statement}
 use Rattle.entries.proofs.capacity.Tie as tie
 
 returns : tie.Need-returns
-returns c = rw (c .before .before .layout-of .ensures .header, c .entry-bytes .ensures)
+returns c = rw (c .entry-bytes .ensures)
 
 pub capacity-spec : {M : Type 1} → statement M
-capacity-spec =
-    tie.close (tie.spec (λ c κs. search needs) (λ c. search needs) (λ c κs. search needs) (λ c. search needs) returns)
+capacity-spec = tie.close (tie.spec (λ c. search needs) (λ c κs. search needs) (λ c. search needs) returns)

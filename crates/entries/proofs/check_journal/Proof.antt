@@ -9,7 +9,7 @@ use denote.Ref.{now}
 use lib.ListN.{length}
 use Rattle.machine.specs.Refusal.{JOURNAL, test, refused}
 use Rattle.machine.proofs.Tests.{refused-early, refused-later}
-use Rattle.entries.specs.Layout.{isJournal}
+use Rattle.entries.specs.Layout.{versionOf, isJournal}
 use Rattle.entries.specs.Tests.{roomTests, journalTests}
 use Rattle.entries.proofs.Places.{room-least}
 use Rattle.entries.proofs.Formed.{room-given}
@@ -28,19 +28,19 @@ decides : (c : tie.Else1) →
     let a = start (c .before) .args in refused (journalTests (a .k) (now (a .journal))) ≡ judged (a .k) (now (a .journal))
 decides c =
     let a = start (c .before) .args in
-    refused-later (roomTests (length (now (a .journal)))) tt (judged (a .k) (now (a .journal))) _ (c .before .check-room .ensures) (c .if1 .left)
+    refused-later (roomTests (versionOf (now (a .journal))) (length (now (a .journal)))) tt (judged (a .k) (now (a .journal))) _ (c .before .check-room .ensures) (c .if1 .left)
 
 returns : tie.Need-returns
 returns c =
     let a = start (c .before) .args in
-    refused-early (roomTests (length (now (a .journal)))) tt (judged (a .k) (now (a .journal))) _ (c .before .check-room .ensures) (c .if1 .taken)
+    refused-early (roomTests (versionOf (now (a .journal))) (length (now (a .journal)))) tt (judged (a .k) (now (a .journal))) _ (c .before .check-room .ensures) (c .if1 .taken)
 
 is-journal-requires : tie.Need-is-journal-requires
 is-journal-requires c κs =
     let s = start (c .before) in
     record {
       legal = s .pre;
-      header = room-least _ (room-given (length (now (s .args .journal))) _ (c .before .check-room .ensures) (c .if1 .left));
+      header = room-least _ _ (room-given (versionOf (now (s .args .journal))) (length (now (s .args .journal))) _ (c .before .check-room .ensures) (c .if1 .left));
     }
 
 returns-2 : tie.Need-returns-2

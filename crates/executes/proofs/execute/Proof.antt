@@ -14,7 +14,8 @@ use Rattle.rows.specs.Table.{formOf, familyOf}
 use Rattle.rows.specs.declared.Form.{Form}
 use Rattle.rows.specs.declared.Family.the-variants.{Low, Wide}
 use Rattle.meaning.specs.Execute.{writtenFor}
-use Rattle.meaning.proofs.Padded.{length-padded, padded-padded}
+use Rattle.meaning.proofs.Effects.{executed-vectors}
+use Rattle.registers.proofs.Padded.{length-padded, padded-padded}
 use Rattle.meaning.proofs.Sizes.{k-least, vector-in, low-written-fits}
 use Rattle.executes.proofs.execute.Statement.{statement}
 use Rattle.executes.proofs.execute.Tie as tie
@@ -76,6 +77,7 @@ returns c =
     ∙ ap (λ (bytes : List ℕ). withVector (a .k) (a .f .d) bytes (a .z .now))
     (ap (padded (vectorBytes (a .k))) (w .low-bytes .ensures)
     ∙ padded-padded segmentBytes (vectorBytes (a .k)) (writes (low-start w)) (low-fits w) (omega (arith, k-least _ _ _ (low-start w .pre))))
+    ∙ sym (executed-vectors (a .f) (a .k) (state (a .z .now) (a .p .now)))
 
 pub execute-spec : {M : Type 1} → statement M
 execute-spec =

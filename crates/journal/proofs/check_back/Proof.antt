@@ -13,6 +13,7 @@ use Rattle.machine.proofs.Tests.{refused-early, refused-later}
 use Rattle.registers.specs.State.{state}
 use Rattle.entries.specs.Layout.{heldOf}
 use Rattle.entries.specs.Tests.{journalTests}
+use Rattle.journal.specs.Left.{buffersOf}
 use Rattle.journal.specs.Calls.{emptyTests, backRefused}
 use Rattle.entries.proofs.Formed.{journal-checked}
 use Rattle.journal.proofs.check_back.Statement.{statement}
@@ -35,7 +36,7 @@ abbrev start : tie.After-check-files → tie.Start
 start c = c .before .before .before .before
 
 abbrev answer : tie.Start → ℕ
-answer s = backRefused (s .args .k) (state (now (s .args .z)) (now (s .args .p))) (now (s .args .journal))
+answer s = backRefused (s .args .k) (buffersOf (state (now (s .args .z)) (now (s .args .p))) (now (s .args .journal)))
 
 abbrev first : tie.After-check-journal → tie.Start
 first c = start (c .before .before)

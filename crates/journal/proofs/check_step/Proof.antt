@@ -15,6 +15,7 @@ use Rattle.registers.specs.State.{state}
 use Rattle.programs.specs.Word.{wordsOf, endTests}
 use Rattle.entries.specs.Layout.{positionOf}
 use Rattle.entries.specs.Tests.{journalTests}
+use Rattle.journal.specs.Left.{buffersOf}
 use Rattle.journal.specs.Calls.{startRefused}
 use Rattle.entries.proofs.Formed.{journal-checked}
 use Rattle.journal.proofs.check_step.Statement.{statement}
@@ -49,7 +50,7 @@ from-journal c = from-program (c .before .before)
 
 -- the answer of the call
 abbrev answer : tie.Start → ℕ
-answer s = let a = s .args in startRefused (a .k) (state (now (a .z)) (now (a .p))) (now (a .program)) (now (a .journal))
+answer s = let a = s .args in startRefused (a .k) (now (a .program)) (buffersOf (state (now (a .z)) (now (a .p))) (now (a .journal)))
 
 -- past each check the later ones decide
 files-passed : (c : tie.Else1) → let a = start (c .before) .args in answer (start (c .before)) ≡ listed (a .k) (now (a .program)) (now (a .journal))

@@ -18,6 +18,7 @@ use Rattle.words.specs.Decode.{decoded, numberOf}
 use Rattle.words.specs.declared.Decoded.the-variants.{Word}
 use Rattle.words.proofs.Encoding.{decoded-in-range}
 use Rattle.cores.proofs.Answers.{core-decodes}
+use Rattle.meaning.proofs.Effects.{target-bytes}
 use Rattle.programs.specs.declared.Next.{Next}
 use Rattle.programs.specs.Word.{wordAt}
 use Rattle.lines.specs.Line.{placedTests, lineRefused, refusedLine, acceptedLine}
@@ -156,7 +157,7 @@ returns-5 c =
     written-done _ _ _ (c .done2 .result) _ (acceptedLine (s .args .position) word (now (shown .register .result))) _ (c .done2 .ensures)
     (decides d ∙ ap numberOf (shown .before .before .fields .given .1))
     (accepted-line (s .args .k) (files s) (now (s .args .program)) (s .args .position) (s .args .number) word (is-word e) (d .before .if2 .left) _
-    (accepted (shown .before .before)) _ (shown .register .ensures))
+    (accepted (shown .before .before)) _ (shown .register .ensures ∙ sym (target-bytes (shown .before .before .fields .given .0 .0) (s .args .k) (files s))))
     (omega (arith, r .room, few shown, accepted-most (s .args .position) (omega (arith, r .inside)) word (now (shown .register .result))))
     (put .put-accepted .ensures)
 

@@ -7,8 +7,9 @@ use denote.Ref.{now}
 use borrow.Author.Needs.{needs}
 use Rattle.facts.specs.declared.Facts.{Facts}
 use Rattle.facts.specs.Facts.{factsOf}
-use Rattle.registers.specs.State.{State, state}
-use Rattle.journal.specs.Calls.{Stepped}
+use Rattle.registers.specs.State.{state}
+use Rattle.journal.specs.Left.{coreOf, Buffers, buffersOf}
+use Rattle.steps.specs.Calls.{Stepped}
 use Rattle.ln.proofs.ln_step.Statement.{statement}
 use Rattle.ln.proofs.ln_step.Tie as tie
 
@@ -21,18 +22,16 @@ abbrev stepped : tie.After-slice-known4 → tie.After-step
 stepped c = c .before .before .before .before
 
 -- a step on equal facts
-same-core : (k : ℕ) (f g : Facts) (s : State) (program journal : List ℕ) (r : ℕ) (after : State) (later : List ℕ) → f ≡ g
-    → Stepped k f s program journal r after later
-    → Stepped k g s program journal r after later
-same-core k f g s program journal r after later e made = rw (← e) made
+same-core : (k : ℕ) (f g : Facts) (program : List ℕ) (b : Buffers) (r : ℕ) (after : Buffers) → f ≡ g → Stepped (coreOf k f) program b r after
+    → Stepped (coreOf k g) program b r after
+same-core k f g program b r after e made = rw (← e) made
 
 returns : tie.Need-returns
 returns c =
     let t = stepped c in
     let a = known t .before .before .before .before .before .args in
-    let made : Stepped (a .k) (factsOf (a .facts)) (state (now (a .z)) (now (a .p))) (now (a .program)) (now (a .journal)) (t .step .result)
-    (state (t .step .last .1 .1 .0) (now (a .p)))
-    (t .step .last .1 .1 .1 .1 .1 .0) = same-core _ _ _ _ _ _ _ _ _ (known t .facts-of .ensures) (t .step .ensures) in
+    let made : Stepped (coreOf (a .k) (factsOf (a .facts))) (now (a .program)) (buffersOf (state (now (a .z)) (now (a .p))) (now (a .journal))) (t .step .result)
+    (buffersOf (state (t .step .last .1 .1 .0) (now (a .p))) (t .step .last .1 .1 .1 .1 .1 .0)) = same-core _ _ _ _ _ _ _ (known t .facts-of .ensures) (t .step .ensures) in
     search needs
 
 pub ln-step-spec : {M : Type 1} → statement M

@@ -26,7 +26,7 @@ fields c = c .before .before .before
 accepted : (c : tie.After-fields) → let a = long (decode c) .before .before .args in decodedOn (a .facts) (a .word) ≡ Word (c .fields .given .0 .0)
 accepted c = sym (decode c .decode .ensures) ∙ c .fields .given .1
 
--- its fields are in range
+-- the fields of an accepted word are in range
 in-range : (c : tie.After-fields) → InRange (c .fields .given .0 .0)
 in-range c = decoded-in-range _ _ (core-decodes _ _ _ (accepted c))
 

@@ -31,11 +31,11 @@ drawn-start c = start (c .before)
 abbrev placed-start : tie.After-register-bytes → tie.Start
 placed-start c = drawn-start (c .before .before)
 
--- the refusal, with these arguments
+-- the refusal with the arguments of the call
 abbrev refusal : tie.Start → ℕ
 refusal s = registerRefused (s .args .k) (now (s .args .z)) (now (s .args .p)) (s .args .kind) (s .args .number)
 
--- with a refusal, and past it
+-- where the test is taken something refuses; past it nothing does, and the register lies in its file
 refuses : (c : tie.Then1) → refusal (refused-start c) ≡ DONE → ⊥
 refuses c e = c .if1 .taken (c .before .register-refusal .ensures ∙ e)
 

@@ -2,14 +2,19 @@
 -- writes.
 -- Assumes nothing.
 use borrow.Author.Needs.{needs}
-use mathlib.Core.Path.{_∙_, ap}
+use mathlib.Core.Path.{_≡_, sym, _∙_, ap}
 use native.Mathlib.Omega.{arith}
+use denote.Ref.{now}
 use Rattle.machine.specs.Size.{segmentBytes}
 use Rattle.registers.specs.Register.{padded}
+use Rattle.registers.specs.State.{State, state}
 use Rattle.words.proofs.Decoding.{q-below}
 use Rattle.rows.specs.Table.{familyOf}
 use Rattle.rows.specs.declared.Family.the-variants.{Low}
 use Rattle.sums.proofs.Widths.{width-legal}
+use Rattle.meaning.specs.Terms.{Operand1}
+use Rattle.meaning.specs.Execute.{operandsOf, maskOf}
+use Rattle.meaning.proofs.Effects.{operand-bytes, mask-bytes}
 use Rattle.meaning.proofs.Sizes.{k-least, k-most, governing-in, vector-in, vector-length, governs}
 use Rattle.meaning.proofs.LowWritten.{written-reduction, written-segment, written-long}
 use Rattle.reduces.proofs.low_bytes.Statement.{statement}
@@ -21,6 +26,10 @@ begin c = c .before .before .before
 
 abbrev start : tie.After-register2 → tie.Start
 start c = begin (c .before .before)
+
+-- the state that it is read from
+abbrev lent : tie.Start → State
+lent s = state (s .args .z .now) (s .args .p .now)
 
 register-requires : tie.Need-register-requires
 register-requires c κs = governing-in _ _ _ (begin c .pre .0 .word)
@@ -58,22 +67,29 @@ long-low-requires c κs =
       one = omega (arith, vector-length _ _ _ h _ (h .fields .n), k-least _ _ _ h);
     })
 
+-- what is read is the word's mask and its first operand
+mask : (c : tie.After-register) → let s = begin (c .before) in now (c .register .result) ≡ maskOf (s .args .f) (s .args .k) (lent s)
+mask c = let s = begin (c .before) in c .register .ensures ∙ sym (mask-bytes (s .args .f) (s .args .k) (lent s))
+
+source : (c : tie.After-register2) → let s = start c in now (c .register2 .result) ≡ operandsOf (s .args .f) (s .args .k) (lent s) .operand1
+source c = let s = start c in c .register2 .ensures ∙ sym (operand-bytes (s .args .f) (s .args .k) (lent s) Operand1)
+
 returns : tie.Need-returns
 returns c =
     let r = c .before .before .before in
-    (rw (r .before .before .width-of .ensures, r .before .register .ensures, r .register2 .ensures) at (c .reduction-low .ensures))
+    (rw (r .before .before .width-of .ensures, mask (r .before), source r) at (c .reduction-low .ensures))
     ∙ ap (padded segmentBytes) (written-reduction _ _ _ (start r .pre .0 .word) _ (start r .pre .1) (start r .pre .0 .is ∙ ap Low (c .before .enum-told .given .1)))
 
 returns-2 : tie.Need-returns-2
 returns-2 c =
     let r = c .before .before .before in
-    (rw (r .before .before .width-of .ensures, r .before .register .ensures, r .register2 .ensures) at (c .segment-sums .ensures))
+    (rw (r .before .before .width-of .ensures, mask (r .before), source r) at (c .segment-sums .ensures))
     ∙ written-segment _ _ _ (start r .pre .0 .word) (start r .pre .0 .is ∙ ap Low (c .before .enum-told2 .given .1))
 
 returns-3 : tie.Need-returns-3
 returns-3 c =
     let r = c .before .before .before in
-    (rw (r .before .before .width-of .ensures, r .register2 .ensures) at (c .long-low .ensures))
+    (rw (r .before .before .width-of .ensures, source r) at (c .long-low .ensures))
     ∙ ap (padded segmentBytes) (written-long _ _ _ (start r .pre .0 .word) _ (start r .pre .1) (start r .pre .0 .is ∙ ap Low (c .before .enum-told3 .given .1)))
 
 pub low-bytes-spec : {M : Type 1} → statement M

@@ -17,7 +17,7 @@ Inv-loop i lines row₀ j₀ row j = (j ≤ rows) × (row ≡ rowAt (i + (j - i)
 abbrev μ-loop : tie.MeasureT-loop
 μ-loop i lines row₀ j₀ row j = j
 
--- past the last row
+-- past the last row the table has the row that stands for none
 past : (i : ℕ) → rows ≤ i → noRow ≡ rowAt i
 unfolding rowAt
 past i h = sym (List·getD-eq-default table noRow h)
@@ -43,7 +43,7 @@ loop-again c =
 loop-again-2 : tie.Need-loop-again-2 Inv-loop μ-loop
 loop-again-2 c = let l = c .before .before in (omega (arith, l .loop .inv .0), l .loop .inv .1 ∙ left _ _ (omega arith))
 
--- with no row left to try, the larger is the place itself
+-- where no row is left to try, the row at hand is that of the place
 returns : tie.Need-returns Inv-loop μ-loop
 returns c = c .before .loop .inv .1 ∙ ap rowAt (omega (arith, c .loop-test .left))
 

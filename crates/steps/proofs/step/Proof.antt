@@ -1,25 +1,45 @@
 -- `step` meets its contract: the early refusals are the call's; past them the word decides, and past the word the room for its entry.
 -- Assumes nothing.
 use borrow.Author.Needs.{needs}
-use mathlib.Core.Path.{_≡_, sym, _∙_, ap}
+use Prim.Native.Nat.{ℕ}
+use mathlib.Core.Path.{_≡_, refl, sym, _∙_, ap}
+use mathlib.Core.List.{_++_}
 use native.Mathlib.Omega.{arith}
 use denote.Ref.{now}
-use Rattle.machine.specs.Refusal.{UNKNOWN, UNDEFINED}
-use Rattle.registers.specs.State.{State, state}
+use Rattle.machine.specs.Refusal.{UNKNOWN, UNDEFINED, refused}
+use Rattle.registers.specs.State.{state}
 use Rattle.programs.specs.Word.{wordAt}
 use Rattle.cores.specs.Core.{decodedOn}
 use Rattle.cores.proofs.Answers.{core-decodes}
+use Rattle.words.specs.Decode.{wordTests}
+use Rattle.words.specs.declared.Decoded.{Decoded}
 use Rattle.words.specs.declared.Decoded.the-variants.{Unknown, Undefined}
-use Rattle.journal.specs.Calls.{wordNow, startRefused}
-use Rattle.journal.proofs.Accepted.{Started, started, start-refused, word-decides, word-performed, step-stood, executable}
+use Rattle.journal.specs.Left.{Core, coreOf, Buffers, buffersOf, BytesIn}
+use Rattle.journal.specs.Calls.{startRefused}
+use Rattle.journal.proofs.Accepted.{Started, started}
+use Rattle.steps.specs.Calls.{wordNow, fullTests, Stepped}
+use Rattle.steps.proofs.Accepted.{start-refused, word-decides, word-performed, step-stood, executable}
 use Rattle.steps.proofs.step.Statement.{statement}
 use Rattle.steps.proofs.step.Tie as tie
 
 abbrev start : tie.After-check-step → tie.Start
 start c = c .before .before .before .before .before .before .before
 
-abbrev lent : tie.Start → State
-lent s = state (now (s .args .z)) (now (s .args .p))
+abbrev lent : tie.Start → Buffers
+lent s = buffersOf (state (now (s .args .z)) (now (s .args .p))) (now (s .args .journal))
+
+-- the core that it runs on
+abbrev core : tie.Start → Core
+core s = coreOf (s .args .k) (s .args .facts)
+
+-- what is lent is bytes
+bytes : (c : tie.After-check-step) → BytesIn (lent (start c))
+bytes c =
+    record {
+      vectors = λ i. omega (arith, c .before .before .before .before .before .before .slice-known .given i);
+      predicates = λ i. omega (arith, c .before .before .before .before .before .shared-slice-known .given i);
+      entries = λ i. omega (arith, c .before .before .before .slice-known2 .given i);
+    }
 
 abbrev passed : tie.After-decode → tie.Else1
 passed c = c .before .before .before .before
@@ -35,12 +55,12 @@ abbrev performed : tie.After-journal → tie.After-perform
 performed c = c .before .before .before
 
 -- past the early refusals
-begun : (c : tie.Else1) → let s = start (c .before) in startRefused (s .args .k) (lent s) (now (s .args .program)) (now (s .args .journal)) ≡ 0
+begun : (c : tie.Else1) → let s = start (c .before) in startRefused (s .args .k) (now (s .args .program)) (lent s) ≡ 0
 begun c = sym (c .before .check-step .ensures) ∙ c .if1 .left
 
-known : (c : tie.Else1) → let s = start (c .before) in Started (s .args .k) (lent s) (now (s .args .program)) (now (s .args .journal))
+known : (c : tie.Else1) → let s = start (c .before) in Started (s .args .k) (now (s .args .program)) (lent s)
 known c =
-    let s = start (c .before) in started (s .args .k) (lent s) (now (s .args .program)) (now (s .args .journal)) (begun c)
+    let s = start (c .before) in started (s .args .k) (now (s .args .program)) (lent s) (begun c)
 
 -- the word at the position is decoded
 word : (c : tie.After-decode) → let a = first c .args in decodedOn (a .facts) (wordNow (now (a .program)) (now (a .journal))) ≡ c .decode .result
@@ -52,7 +72,7 @@ word c =
 returns : tie.Need-returns
 returns c =
     let s = start (c .before) in
-    start-refused (s .args .k) (s .args .facts) (lent s) (now (s .args .program)) (now (s .args .journal)) _ (c .before .check-step .ensures) (c .if1 .taken)
+    record { leaves = start-refused (core s) (now (s .args .program)) (lent s) _ (c .before .check-step .ensures) (c .if1 .taken); bytes = bytes (c .before) }
 
 position-of-requires : tie.Need-position-of-requires
 position-of-requires c κs = known (c .before) .formed .least
@@ -67,27 +87,31 @@ perform-requires c κs =
     let s = first d in
     let k = known (passed d) in
     record {
-      word = executable (s .args .k) (wordNow (now (s .args .program)) (now (s .args .journal))) (f .decoded .given .0 .0) (lent s) (k .sized)
+      word = executable (s .args .k) (wordNow (now (s .args .program)) (now (s .args .journal))) (f .decoded .given .0 .0) (lent s .files) (k .sized)
           (core-decodes (s .args .facts) _ _ (word d ∙ f .decoded .given .1));
-      header = k .formed .least;
+      formed = k .formed;
       few = k .few;
     }
 
-returns-2 : tie.Need-returns-2
-returns-2 c =
-    let d = c .before .before in
+-- a word that refuses, refuses the step
+refusing : (d : tie.After-decode) (x : Decoded) (r : ℕ) → d .decode .result ≡ x
+    → r ≡ refused (wordTests x ++ fullTests (first d .args .k) (now (first d .args .journal)))
+    → (r ≡ 0 → ⊥)
+    → Stepped (core (first d)) (now (first d .args .program)) (lent (first d)) r (lent (first d))
+refusing d x r is number h =
     let s = first d in
-    step-stood (s .args .k) (s .args .facts) (lent s) (now (s .args .program)) (now (s .args .journal)) UNKNOWN
-    (sym (word-decides (s .args .k) (s .args .facts) (lent s) (now (s .args .program)) (now (s .args .journal)) Unknown (begun (passed d)) (word d ∙ c .enum-told .given .1)))
-    (λ e. omega arith)
+    record {
+      leaves = step-stood (core s) (now (s .args .program)) (lent s) r
+          (number ∙ sym (word-decides (core s) (now (s .args .program)) (lent s) x (begun (passed d)) (word d ∙ is)))
+          h;
+      bytes = bytes (passed d .before);
+    }
+
+returns-2 : tie.Need-returns-2
+returns-2 c = refusing (c .before .before) Unknown UNKNOWN (c .enum-told .given .1) refl (λ e. omega arith)
 
 returns-3 : tie.Need-returns-3
-returns-3 c =
-    let d = c .before .before in
-    let s = first d in
-    step-stood (s .args .k) (s .args .facts) (lent s) (now (s .args .program)) (now (s .args .journal)) UNDEFINED
-    (sym (word-decides (s .args .k) (s .args .facts) (lent s) (now (s .args .program)) (now (s .args .journal)) Undefined (begun (passed d)) (word d ∙ c .enum-told2 .given .1)))
-    (λ e. omega arith)
+returns-3 c = refusing (c .before .before) Undefined UNDEFINED (c .enum-told2 .given .1) refl (λ e. omega arith)
 
 returns-4 : tie.Need-returns-4
 returns-4 c =
@@ -95,8 +119,11 @@ returns-4 c =
     let f = found (done .before) in
     let d = f .before .before in
     let s = first d in
-    word-performed (s .args .k) (s .args .facts) (lent s) (now (s .args .program)) (now (s .args .journal)) (f .decoded .given .0 .0) _ _ _ (begun (passed d)) (word d ∙ f .decoded .given .1)
-    (done .perform .ensures)
+    record {
+      leaves = done .perform .ensures
+          ∙ word-performed (core s) (now (s .args .program)) (lent s) (f .decoded .given .0 .0) (begun (passed d)) (word d ∙ f .decoded .given .1);
+      bytes = bytes (passed d .before);
+    }
 
 pub step-spec : {M : Type 1} → statement M
 step-spec =

@@ -37,7 +37,7 @@ number c = start c .args .s * perSegment (start c .args .w) + c .before .loop .e
 inside-row : (c : tie.In-loop Inv-loop μ-loop) → c .before .loop .e * start c .args .w + start c .args .w ≤ segmentBytes
 inside-row c = lane-inside (start c .args .w) (c .before .loop .e) (start c .pre .fills) (c .loop-test .taken)
 
--- and within the register
+-- the lane of a turn lies within the register
 inside : (c : tie.In-loop Inv-loop μ-loop) → number c * start c .args .w + start c .args .w ≤ length (start c .args .register .now)
 inside c = omega (arith, start c .pre .inside, lane-place (start c .args .w) (start c .args .s) (c .before .loop .e) (start c .pre .fills), inside-row c)
 

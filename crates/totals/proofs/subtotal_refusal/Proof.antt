@@ -32,7 +32,7 @@ range c =
     let a = start (c .before) .args in
     refused-later (panelTests (a .k) (a .z .now) (a .p .now) (a .source) (a .governing) (a .size)) tt _ _ (c .before .panel-refusal .ensures) (c .if1 .left)
 
--- and the numbers are in range
+-- past the first test the length, the files and the numbers are right
 accepted : (c : tie.Else1)
     → let a = start (c .before) .args in
     Accepted (a .k) (a .z .now) (a .p .now) (a .source) (a .governing) (a .size)

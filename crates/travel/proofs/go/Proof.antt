@@ -2,7 +2,8 @@
 -- Assumes nothing.
 use borrow.Author.Needs.{needs}
 use denote.Ref.{now}
-use Rattle.registers.specs.State.{State, state}
+use Rattle.registers.specs.State.{state}
+use Rattle.journal.specs.Left.{Core, coreOf, Buffers, buffersOf}
 use Rattle.travel.proofs.Directed.{gone-back, gone-forward}
 use Rattle.travel.proofs.go.Statement.{statement}
 use Rattle.travel.proofs.go.Tie as tie
@@ -11,8 +12,11 @@ use Rattle.travel.proofs.go.Tie as tie
 abbrev start : tie.After-slice-known2 → tie.Start
 start c = c .before .before .before .before
 
-abbrev lent : tie.Start → State
-lent s = state (now (s .args .z)) (now (s .args .p))
+abbrev lent : tie.Start → Buffers
+lent s = buffersOf (state (now (s .args .z)) (now (s .args .p))) (now (s .args .journal))
+
+abbrev core : tie.Start → Core
+core s = coreOf (s .args .k) (s .args .facts)
 
 abbrev backed : tie.After-slice-known4 → tie.After-back
 backed c = c .before .before .before .before
@@ -24,13 +28,13 @@ returns : tie.Need-returns
 returns c =
     let t = backed c .before .before .before in
     let s = start (t .before) in
-    gone-back (s .args .k) (s .args .facts) (lent s) (now (s .args .program)) (now (s .args .journal)) (s .args .direction) _ _ _ (t .if1 .taken) (backed c .back .ensures)
+    gone-back (core s) (now (s .args .program)) (s .args .direction) (lent s) _ _ (t .if1 .taken) (backed c .back .ensures)
 
 returns-2 : tie.Need-returns-2
 returns-2 c =
     let e = stepped c .before .before .before in
     let s = start (e .before) in
-    gone-forward (s .args .k) (s .args .facts) (lent s) (now (s .args .program)) (now (s .args .journal)) (s .args .direction) _ _ _ (e .if1 .left) (stepped c .step .ensures)
+    gone-forward (core s) (now (s .args .program)) (s .args .direction) (lent s) _ _ (e .if1 .left) (stepped c .step .ensures)
 
 pub go-spec : {M : Type 1} → statement M
 go-spec =

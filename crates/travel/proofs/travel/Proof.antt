@@ -9,8 +9,8 @@ use native.Mathlib.Omega.{arith}
 use denote.Ref.{now}
 use lib.ListN.{length, getD, drop}
 use lib.Seq.{drop-cons, drop-length}
-use Rattle.facts.specs.declared.Facts.{Facts}
 use Rattle.registers.specs.State.{state}
+use Rattle.journal.specs.Left.{Core, coreOf, Buffers, buffersOf}
 use Rattle.travel.specs.declared.Travelled.{Travelled}
 use Rattle.travel.specs.Travel.{Trip, tripOf, travelled, onward}
 use Rattle.travel.proofs.Directed.{counted-few, trip-onward}
@@ -19,17 +19,17 @@ use Rattle.travel.proofs.travel.Statement.{statement}
 use Rattle.travel.proofs.travel.Tie as tie
 
 -- the step at a place, and then those after it
-trip-next : (k : ℕ) (facts : Facts) (i : ℕ) (program directions : List ℕ) (t after : Trip) → i < length directions → after ≡ onward k facts program (getD directions i 0) t
-    → travelled k facts program (drop (i + 1) directions) after ≡ travelled k facts program (drop i directions) t
+trip-next : (c : Core) (program directions : List ℕ) (i : ℕ) (t after : Trip) → i < length directions → after ≡ onward c program (getD directions i 0) t
+    → travelled c program (drop (i + 1) directions) after ≡ travelled c program (drop i directions) t
 unfolding travelled
-trip-next k facts i program directions t after h is =
-    rw (is, add-one i) (sym (ap (λ (rest : List ℕ). travelled k facts program rest t) (drop-cons directions i 0 h)))
+trip-next c program directions i t after h is =
+    rw (is, add-one i) (sym (ap (λ (rest : List ℕ). travelled c program rest t) (drop-cons directions i 0 h)))
 
 -- past the last step
-trip-ended : (k : ℕ) (facts : Facts) (i : ℕ) (program directions : List ℕ) (t : Trip) → i ≡ length directions → travelled k facts program (drop i directions) t ≡ t
+trip-ended : (c : Core) (program directions : List ℕ) (i : ℕ) (t : Trip) → i ≡ length directions → travelled c program (drop i directions) t ≡ t
 unfolding travelled
-trip-ended k facts i program directions t end =
-    ap (λ (rest : List ℕ). travelled k facts program rest t) (ap (λ (j : ℕ). drop j directions) end ∙ drop-length directions)
+trip-ended c program directions i t end =
+    ap (λ (rest : List ℕ). travelled c program rest t) (ap (λ (j : ℕ). drop j directions) end ∙ drop-length directions)
 
 abbrev Inv-loop : tie.InvT-loop
 Inv-loop k facts z₀ p program journal₀ directions made₀ i₀ z journal made i =
@@ -38,7 +38,8 @@ Inv-loop k facts z₀ p program journal₀ directions made₀ i₀ z journal mad
     × (length journal ≡ length journal₀)
     × (made .forward ≤ i)
     × (made .back ≤ i)
-    × (travelled k facts program (drop i directions) (tripOf (state z p) journal made) ≡ travelled k facts program directions (tripOf (state z₀ p) journal₀ made₀))
+    × (travelled (coreOf k facts) program (drop i directions) (tripOf (buffersOf (state z p) journal) made)
+    ≡ travelled (coreOf k facts) program directions (tripOf (buffersOf (state z₀ p) journal₀) made₀))
 
 abbrev μ-loop : tie.MeasureT-loop
 μ-loop k facts z₀ p program journal₀ directions made₀ i₀ z journal made i = length directions - i
@@ -46,6 +47,9 @@ abbrev μ-loop : tie.MeasureT-loop
 -- the function's entry, the loop's turn, and the step that it takes
 abbrev start : tie.At-loop Inv-loop μ-loop → tie.Start Inv-loop μ-loop
 start c = c .before .before .before .before .before .before
+
+abbrev core : tie.Start Inv-loop μ-loop → Core
+core s = coreOf (s .args .k) (s .args .facts)
 
 abbrev turn : tie.After-go Inv-loop μ-loop → tie.At-loop Inv-loop μ-loop
 turn c = c .before .before .before .before .before
@@ -71,9 +75,12 @@ loop-again c =
       g .kept .1 .1 .1 .1 .1 .0 ∙ l .inv .2,
       omega (arith, few .0, ap (λ (m : Travelled). m .forward) (c .counted .ensures)),
       omega (arith, few .1, ap (λ (m : Travelled). m .back) (c .counted .ensures)),
-      trip-next (a .k) (a .facts) (l .i) (now (a .program)) (now (a .directions)) (tripOf (state (l .z) (now (a .p))) (l .journal) (l .made)) _ (omega arith)
-          (trip-onward (a .k) (a .facts) (state (l .z) (now (a .p))) (now (a .program)) (l .journal) direction (g .result) _ _ (l .made) (c .counted .result)
-          (g .ensures) (c .counted .ensures))
+      trip-next (core (start (turn (gone c)))) (now (a .program)) (now (a .directions)) (l .i) (tripOf (buffersOf (state (l .z) (now (a .p))) (l .journal)) (l .made)) _
+          (omega arith)
+          (trip-onward (core (start (turn (gone c)))) (now (a .program)) direction (buffersOf (state (l .z) (now (a .p))) (l .journal)) (g .result) _ (l .made)
+          (c .counted .result)
+          (g .ensures)
+          (c .counted .ensures))
           ∙ l .inv .5,
     )
 
@@ -87,9 +94,9 @@ returns : tie.Need-returns Inv-loop μ-loop
 returns c =
     let l = c .before .loop in
     let a = start (c .before) .args in
-    let t : Trip = tripOf (state (l .z) (now (a .p))) (l .journal) (l .made) in
-    made-all (a .k) (a .facts) (state (now (a .z)) (now (a .p))) (now (a .program)) (now (a .journal)) (now (a .directions)) (t .files) (l .journal) (l .made)
-    (sym (trip-ended (a .k) (a .facts) (l .i) (now (a .program)) (now (a .directions)) t (omega arith)) ∙ l .inv .5)
+    let b : Buffers = buffersOf (state (l .z) (now (a .p))) (l .journal) in
+    made-all (core (start (c .before))) (buffersOf (state (now (a .z)) (now (a .p))) (now (a .journal))) (now (a .program)) (now (a .directions)) b (l .made)
+    (sym (trip-ended (core (start (c .before))) (now (a .program)) (now (a .directions)) (l .i) (tripOf b (l .made)) (omega arith)) ∙ l .inv .5)
 
 pub travel-spec : {M : Type 1} → statement M
 travel-spec =

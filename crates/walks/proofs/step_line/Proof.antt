@@ -9,6 +9,7 @@ use borrow.Author.Needs.{needs}
 use borrow.Rule.Slice.PartMut.{putMid, mid-len}
 use Rattle.facts.specs.declared.Facts.{Facts}
 use Rattle.registers.specs.State.{State, state}
+use Rattle.journal.specs.Left.{Core, coreOf}
 use Rattle.digits.specs.Put.{Put}
 use Rattle.lines.specs.Line.{mostLine}
 use Rattle.lines.proofs.Pieces.{put-from}
@@ -24,24 +25,28 @@ taken c = c .before .before .before .before .before .before .before
 abbrev start : tie.After-write-line → tie.Start
 start c = taken c .before .before .before .before .before .before .before .before
 
+-- the core that it runs on
+abbrev core : tie.After-write-line → Core
+core c = coreOf (start c .args .k) (start c .args .facts)
+
 -- the files that the step left
 abbrev left : tie.After-write-line → State
 left c = state (taken c .step .last .1 .1 .0) (now (start c .args .p))
 
 -- what is printed is not longer than the longest line, and is written at the place
-few : (c : tie.After-write-line) → let a = start c .args in length (printed (a .k) (a .facts) (left c) (now (a .program)) (a .position) (taken c .step .result)) ≤ mostLine
-few c = let a = start c .args in printed-most (a .k) (a .facts) (left c) (now (a .program)) (a .position) (taken c .step .result)
+few : (c : tie.After-write-line) → let a = start c .args in length (printed (core c) (left c) (now (a .program)) (a .position) (taken c .step .result)) ≤ mostLine
+few c = let a = start c .args in printed-most (core c) (left c) (now (a .program)) (a .position) (taken c .step .result)
 
 shown : (c : tie.After-write-line) → let a = start c .args in
     let out = now (a .out) in
-    Put out (a .at) (printed (a .k) (a .facts) (left c) (now (a .program)) (a .position) (taken c .step .result))
+    Put out (a .at) (printed (core c) (left c) (now (a .program)) (a .position) (taken c .step .result))
     (putMid (a .at) (length out - a .at) out (c .write-line .last .0))
     (a .at + c .write-line .result .value)
 shown c =
     let a = start c .args in
     let out = now (a .out) in
     put-from (a .at) out (omega arith) (omega (arith, few c))
-    (turn-put (a .k) (a .facts) (left c) (now (a .program)) (a .position) (taken c .step .result) _ _ (c .write-line .result)
+    (turn-put (core c) (left c) (now (a .program)) (a .position) (taken c .step .result) _ _ (c .write-line .result)
     (omega (arith, mid-len (a .at) (length out) out (le-refl _)))
     (c .write-line .ensures))
 

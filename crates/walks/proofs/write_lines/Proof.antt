@@ -11,6 +11,7 @@ use borrow.Author.Needs.{needs}
 use Rattle.machine.specs.Size.{mostWords}
 use Rattle.facts.specs.declared.Facts.{Facts}
 use Rattle.registers.specs.State.{state}
+use Rattle.journal.specs.Left.{Core, coreOf, buffersOf}
 use Rattle.digits.specs.Put.{Put}
 use Rattle.digits.proofs.Puts.{put-then, put-none}
 use Rattle.walks.specs.Output.{linesFrom, linesMost}
@@ -25,8 +26,8 @@ Inv-loop out₀ k facts z₀ p program journal₀ at₀ position₀ out z journa
     × (length out ≡ length out₀)
     × (length z ≡ length z₀)
     × (length journal ≡ length journal₀)
-    × ((m : List ℕ) (r : ℕ) → Put out at (linesFrom (mostWords - position) k facts program position (state z p) journal) m r
-    → Put out₀ 0 (linesFrom mostWords k facts program 0 (state z₀ p) journal₀) m r)
+    × ((m : List ℕ) (r : ℕ) → Put out at (linesFrom (mostWords - position) (coreOf k facts) program position (buffersOf (state z p) journal)) m r
+    → Put out₀ 0 (linesFrom mostWords (coreOf k facts) program 0 (buffersOf (state z₀ p) journal₀)) m r)
 
 abbrev μ-loop : tie.MeasureT-loop
 μ-loop out₀ k facts z₀ p program journal₀ at₀ position₀ out z journal at position = mostWords - position
@@ -44,6 +45,10 @@ loop c = in-loop c .before
 abbrev start : tie.After-step-line Inv-loop μ-loop → tie.Start Inv-loop μ-loop
 start c = loop c .before .before .before .before .before .before
 
+-- the core that it runs on
+abbrev core : tie.Start Inv-loop μ-loop → Core
+core s = coreOf (s .args .k) (s .args .facts)
+
 -- a word is left
 left : (position : ℕ) → position < mostWords → mostWords - position ≡ suc (mostWords - (position + 1))
 left position h = omega arith
@@ -60,7 +65,7 @@ returns c =
     l .inv .5 _ _
     (rw (
       left (l .position) (in-loop t .loop-test .taken),
-      lines-end _ (a .k) (a .facts) (now (a .program)) (l .position) (state (l .z) (now (a .p))) _ (l .journal) _ _ (turn .stepped) (c .if1 .taken),
+      lines-end _ (core (start t)) (now (a .program)) (l .position) (buffersOf (state (l .z) (now (a .p))) (l .journal)) _ _ (turn .stepped) (c .if1 .taken),
     )
     (turn .shown))
 
@@ -70,16 +75,16 @@ loop-again c =
     let l = loop t .loop in
     let a = start t .args in
     let turn = t .step-line .ensures in
-    let files = state (l .z) (now (a .p)) in (
+    let lent = buffersOf (state (l .z) (now (a .p))) (l .journal) in (
       omega arith,
-      omega (arith, turn .shown .after, turn-room 0 (a .k) (a .facts) (now (a .program)) (l .position) files _ (l .journal) _ _ (turn .stepped) (c .if1 .left)),
+      omega (arith, turn .shown .after, turn-room 0 (core (start t)) (now (a .program)) (l .position) lent _ _ (turn .stepped) (c .if1 .left)),
       search needs,
       search needs,
       search needs,
       λ m r h. l .inv .5 m r
           (rw (
             left (l .position) (in-loop t .loop-test .taken),
-            lines-more _ (a .k) (a .facts) (now (a .program)) (l .position) files _ (l .journal) _ _ (turn .stepped) (c .if1 .left),
+            lines-more _ (core (start t)) (now (a .program)) (l .position) lent _ _ (turn .stepped) (c .if1 .left),
           )
           (put-then (turn .shown) h)),
     )

@@ -13,7 +13,7 @@ use Rattle.digits.specs.Digits.{widthWithin, decimalWidth}
 use Rattle.session.specs.Layout.{programPart}
 use Rattle.lines.specs.Line.{mostLine}
 use Rattle.lines.proofs.Lines.{written-refused, written-done}
-use Rattle.walks.specs.Output.{sessionState, walkJournal, sessionLines, mostOutput}
+use Rattle.walks.specs.Output.{sessionBuffers, sessionCore, sessionLines, mostOutput}
 use Rattle.walks.proofs.Outputs.{lines-most, walk-room, output-session, output-none}
 use Rattle.walks.proofs.write_output.Statement.{statement}
 use Rattle.walks.proofs.write_output.Tie as tie
@@ -53,7 +53,7 @@ returns-3 c =
     let read = past .before .before in
     let input = now (begin (read .before) .args .bytes) in
     let s = read .read-session .result in
-    let fits = lines-most mostWords (s .k) (s .facts) (programPart s input) 0 (sessionState s input) (walkJournal (s .k)) in
+    let fits = lines-most mostWords (sessionCore s) (programPart s input) 0 (sessionBuffers s input) in
     written-done _ _ _ _ _ (sessionLines s input) _ refl (rw (le-ltb _ _ (room (read .before))))
     (output-session input s (read .read-session .ensures) (past .if2 .left))
     (omega (arith, fits, walk-room (s .k), room (read .before)))

@@ -8,7 +8,7 @@ use lib.ListN.{length, length-take, take}
 use borrow.Author.Needs.{needs}
 use Rattle.machine.proofs.Checks.{legal-most}
 use Rattle.walks.specs.Output.{walkJournal}
-use Rattle.walks.proofs.Outputs.{copied-is, fresh-is}
+use Rattle.walks.proofs.Outputs.{walk-room, copied-is, fresh-is}
 use Rattle.walks.proofs.write_walk.Statement.{statement}
 use Rattle.walks.proofs.write_walk.Tie as tie
 
@@ -28,7 +28,7 @@ first c = start (renewed (c .before))
 
 -- the fresh journal, the copy of the vector file, and its size
 made : (c : tie.After-fresh) → c .fresh .last .1 .0 ≡ walkJournal (start c .args .k)
-made c = c .fresh .ensures .bytes ∙ fresh-is (start c .args .k) (c .before .before .journal-room .result) (start c .pre .files .legal) (c .before .before .journal-room .ensures)
+made c = fresh-is (start c .args .k) (c .before .before .journal-room .result) _ _ (start c .pre .files .legal) (c .before .before .journal-room .ensures) (c .fresh .ensures)
 
 copied : (c : tie.After-copy) → take (c .copy .result) (c .copy .last .1 .0) ≡ now (first c .args .z)
 copied c =
@@ -46,6 +46,13 @@ array-borrow-prefix-file : tie.Need-array-borrow-prefix-file
 array-borrow-prefix-file c =
     let f = c .before .before .copy in
     omega (arith, sized (c .before .before), length-take (f .result) (f .last .1 .0), min-le-right (f .result) (length (f .last .1 .0)))
+
+-- the fresh journal's lines have room
+write-lines-requires : tie.Need-write-lines-requires
+write-lines-requires c κs =
+    let r = renewed (copy c .before) in
+    let s = start r in
+    rw (made r) (omega (arith, walk-room (s .args .k), s .pre .room))
 
 returns : tie.Need-returns
 returns c =
@@ -66,6 +73,6 @@ write-walk-spec =
     array-borrow-prefix-file
     (λ c. sized (c .before .before .before))
     (λ c. search needs)
-    (λ c κs. search needs)
+    write-lines-requires
     (λ c. search needs)
     returns)

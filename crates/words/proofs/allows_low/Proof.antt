@@ -11,11 +11,11 @@ use Rattle.rows.specs.declared.LowFamily.the-variants.{Reduction}
 use Rattle.words.proofs.allows_low.Statement.{statement}
 use Rattle.words.proofs.allows_low.Tie as tie
 
--- a reduction's, by its most size
+-- a reduction allows the sizes up to its most
 reduced : (signed : Bool) (q most size : ℕ) (r : Bool) → most ≡ mostReduced signed → r ≡ within 0 most size → r ≡ allowsLow Reduction signed q size
 reduced signed q most size r is e = e ∙ ap (λ (m : ℕ). within 0 m size) is
 
--- the sizes of a family, as they are asked for
+-- whether a family allows the size that is asked for
 abbrev sizesAt : tie.Start → LowFamily → Bool
 sizesAt s low = allowsLow low (s .args .signed) (s .args .q) (s .args .size)
 

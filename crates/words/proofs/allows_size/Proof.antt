@@ -8,7 +8,7 @@ use Rattle.rows.specs.declared.Family.{Family}
 use Rattle.words.proofs.allows_size.Statement.{statement}
 use Rattle.words.proofs.allows_size.Tie as tie
 
--- the sizes of a family, as they are asked for
+-- whether a family allows the size that is asked for
 abbrev sizesAt : tie.Start → Family → Bool
 sizesAt s family = allowsFamily family (s .args .form .parameters .signed) (s .args .q) (s .args .size)
 

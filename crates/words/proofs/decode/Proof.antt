@@ -24,7 +24,7 @@ row-known c = c .before .before
 abbrev form-known : tie.After-fields-at → tie.After-form-of
 form-known c = c .before
 
--- its family is its form's
+-- the family of a row's form is the row's
 family-told : (form : Form) (i : ℕ) → form ≡ formOf i → form .family ≡ familyOf i
 family-told form i e = ap (λ (f : Form). f .family) e
 
@@ -45,7 +45,7 @@ known c =
     decoded-judged _ (rw (r .row-of .ensures) at (form-known c .before .if1 .left))
     ∙ ap judged (ap (λ (i : ℕ). fieldsAt i (r .before .args .word)) (sym (r .row-of .ensures)) ∙ sym (c .fields-at .ensures))
 
--- and the test that was made is the one of `judged`
+-- the test of the size that was made is the one of `judged`
 tested : (c : tie.After-allows-size)
     → allows (formOf (c .before .fields-at .result .row)) (c .before .fields-at .result .q) (c .before .fields-at .result .size) ≡ c .allows-size .result
 tested c =

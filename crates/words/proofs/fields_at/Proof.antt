@@ -27,7 +27,7 @@ all-read : (i word size n d g m q : ℕ) → size ≡ fieldsAt i word .size → 
     → g ≡ fieldsAt i word .g → m ≡ fieldsAt i word .m → q ≡ fieldsAt i word .q → made i size n d g m q ≡ fieldsAt i word
 all-read i word size n d g m q size-read n-read d-read g-read m-read q-read = rw (size-read, n-read, d-read, g-read, m-read, q-read)
 
--- by how much was read: the three that every word has, then the governing predicate, the second source, and Q
+-- the fields by how many are read: the three that every word has, then the governing predicate, the second source, and Q
 abbrev governed : tie.After-field-of6 → tie.After-field-of4
 governed c = c .before .before .before .before
 

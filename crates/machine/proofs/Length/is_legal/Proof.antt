@@ -10,7 +10,7 @@ use Rattle.machine.proofs.Legal.{Among, among-true, among-false, illega
 use Rattle.machine.proofs.Length.is_legal.Statement.{statement}
 use Rattle.machine.proofs.Length.is_legal.Tie as tie
 
--- below the range, within it, and above it where it is none of the others
+-- k below the range from 1 to 2, within it, and above it where it is neither 4, 8 nor 16
 below : (k : ℕ) → k < 1 → Legal k → ⊥
 below k low legal = omega (arith, legal .least)
 

@@ -15,7 +15,6 @@ use Rattle.machine.proofs.Places.{place-within}
 use Rattle.parts.specs.Number.{bitsOf}
 use Rattle.registers.specs.Register.{padded}
 use Rattle.registers.specs.State.{State, read}
-use Rattle.registers.specs.declared.Kind.the-variants.{Vector}
 use Rattle.lanes.specs.Lane.{widthOf, active}
 use Rattle.lanes.specs.Integer.{residue}
 use Rattle.lanes.specs.Sum.{each, element}
@@ -33,13 +32,14 @@ use Rattle.sums.specs.Panel.{perSegment, FillsSegment}
 use Rattle.sums.proofs.Widths.{width-legal}
 use Rattle.sums.proofs.Matters.{same-active}
 use Rattle.sums.proofs.Rows.{lane-inside, lane-place}
-use Rattle.meaning.specs.Terms.{Operands, Term, elementAdded, sumOf, governedTerm}
+use Rattle.meaning.specs.Terms.{Operands, Operand1, Term, elementAdded, sumOf, governedTerm}
 use Rattle.meaning.specs.Meaning.{familyTerms, lanesAfter}
-use Rattle.meaning.specs.Execute.{operandsOf, feeds, integerAfter, widthFor, lanesFor, destinationAfter}
+use Rattle.meaning.specs.Execute.{targetOf, operandsOf, maskOf, feeds, integerAfter, widthFor, lanesFor, destinationAfter}
 use Rattle.meaning.specs.Needs.{Executable}
 use Rattle.meaning.specs.Theorems.{isGoverned, governedOf, Agree}
 use Rattle.elements.proofs.Halves.{element-same, half-same}
-use Rattle.meaning.proofs.Sizes.{false-not-true, vector-length, whole, wide-halves}
+use Rattle.meaning.proofs.Effects.{old-is-target, operand-length}
+use Rattle.meaning.proofs.Sizes.{false-not-true, whole, wide-halves}
 
 module _ (o o′ : Operands) where
   -- two terms are active in both or in neither, and add the same where they are
@@ -112,18 +112,19 @@ module _ (w bytes : ℕ) (a b : Governed) (o o′ : Operands) (first : o .operan
 -- have the same destination after a governed word
 pub only-active-matters : (f : Fields) (k : ℕ) (s s′ : State) → Executable f k s → Executable f k s′ → isGoverned (familyOf (f .row)) ≡ true
     → Agree (widthOf (f .size)) (governedOf f k s) (governedOf f k s′)
-    → (familyOf (f .row) ≡ Wide Pairwise → read k Vector (f .d) s ≡ read k Vector (f .d) s′)
+    → (familyOf (f .row) ≡ Wide Pairwise → read k (targetOf f) s ≡ read k (targetOf f) s′)
     → destinationAfter f k s ≡ destinationAfter f k s′
 only-active-matters f k s s′ x x′ g agree old =
     ap (padded (vectorBytes k))
     (same-lanes (widthFor f) 0 (lanesFor f k) (λ (e : ℕ). residue (bitsOf (widthFor f)) (integerAfter f k s e)) (λ (e : ℕ). residue (bitsOf (widthFor f)) (integerAfter f k s′ e))
-    (λ e l h. ap (residue (bitsOf (widthFor f))) (same-sum (operandsOf f k s) (operandsOf f k s′) (feeds f k s e) (feeds f k s′ e) (same e (omega arith)))))
+    (λ e l h. ap (residue (bitsOf (widthFor f)))
+    (same-sum (operandsOf f k s) (operandsOf f k s′) (feeds f k (maskOf f k s) e) (feeds f k (maskOf f k s′) e) (same e (omega arith)))))
   where
-    same : (e : ℕ) → e < lanesFor f k → SameTerms (operandsOf f k s) (operandsOf f k s′) (feeds f k s e) (feeds f k s′ e)
+    same : (e : ℕ) → e < lanesFor f k → SameTerms (operandsOf f k s) (operandsOf f k s′) (feeds f k (maskOf f k s) e) (feeds f k (maskOf f k s′) e)
     same e h =
         same-feeds (widthOf (f .size)) (vectorBytes k) (governedOf f k s) (governedOf f k s′) (operandsOf f k s) (operandsOf f k s′) refl refl
-        (vector-length f k s x (f .n) (x .fields .n))
-        (vector-length f k s′ x′ (f .n) (x .fields .n))
+        (operand-length f k s x Operand1)
+        (operand-length f k s′ x′ Operand1)
         agree
         (familyOf (f .row))
         (formOf (f .row) .parameters)
@@ -133,5 +134,5 @@ only-active-matters f k s s′ x x′ g agree old =
         (width-legal (f .size) (x .fields .size) .2)
         (whole k (f .size) (x .fields .size))
         (wide-halves f k s x)
-        old
+        (λ is. rw (old-is-target f) (old is))
         h

@@ -24,8 +24,10 @@ use Rattle.names.specs.Named.{leastOut, textOfWord, nameRefused}
 use Rattle.lines.specs.Line.{placedTests, lineRefused}
 use Rattle.assembles.specs.Assembled.{ReadsAs, Assembled}
 use Rattle.assembles.proofs.Theorems.{reads-once, text-exactly}
-use Rattle.journal.specs.Calls.{startTests, fullTests, wordNow, stepRefused, stepState, stepJournal}
-use Rattle.journal.proofs.Accepted.{step-accepted}
+use Rattle.journal.specs.Left.{coreOf, Buffers}
+use Rattle.journal.specs.Calls.{startTests}
+use Rattle.steps.specs.Calls.{wordNow, fullTests, stepped, stepBy}
+use Rattle.steps.proofs.Accepted.{step-number, step-by, step-accepted}
 
 -- with all facts the tests of a name, of a line and of a step ask what a word decodes to, and nothing of the core
 pub name-on-all : (n word : ℕ) → nameRefused n word allFacts ≡ refused (outTest (ltb n leastOut) ∷ wordTests (decoded word))
@@ -37,11 +39,11 @@ unfolding lineRefused
 line-on-all k s program position number n =
     ap (λ (d : Decoded). refused (placedTests k s program position n ++ onlyWhere (eqb number DONE) (wordTests d))) (on-all (wordAt program position))
 
-pub step-on-all : (k : ℕ) (s : State) (program journal : List ℕ) → stepRefused k allFacts s program journal
-    ≡ refused (startTests k s program journal ++ wordTests (decoded (wordNow program journal)) ++ fullTests k journal)
-unfolding stepRefused
-step-on-all k s program journal =
-    ap (λ (d : Decoded). refused (startTests k s program journal ++ wordTests d ++ fullTests k journal)) (on-all (wordNow program journal))
+pub step-on-all : (k : ℕ) (program : List ℕ) (b : Buffers) → stepped (coreOf k allFacts) program b .number
+    ≡ refused (startTests k program b ++ wordTests (decoded (wordNow program (b .journal))) ++ fullTests k (b .journal))
+step-on-all k program b =
+    step-number (coreOf k allFacts) program b
+    ∙ ap (λ (d : Decoded). refused (startTests k program b ++ wordTests d ++ fullTests k (b .journal))) (on-all (wordNow program (b .journal)))
 
 -- and a text is assembled to the word that is accepted at all and reads so
 pub reads-on-all : (word : ℕ) (text : List ℕ) → ReadsAs allFacts word text
@@ -51,44 +53,40 @@ reads-on-all word text = (
   λ h. record { below = h .0; accepted = ap numberOf (on-all word) ∙ h .1; reads = h .2 },
 )
 
--- two cores whose step is the same: the answer, the state and the journal that it leaves
-pub record SameStep (k : ℕ) (a b : Facts) (s : State) (program journal : List ℕ) : Type 0 where
-  pub answered : stepRefused k a s program journal ≡ stepRefused k b s program journal
-  pub files : stepState k a s program journal ≡ stepState k b s program journal
-  pub bytes : stepJournal k a s program journal ≡ stepJournal k b s program journal
+module _ (k : ℕ) (program : List ℕ) (b : Buffers) where
+  -- the word at the position
+  abbrev word : ℕ
+  word = wordNow program (b .journal)
 
-module _ (k : ℕ) (s : State) (program journal : List ℕ) where
   -- the refusal of a step, by what its word decodes to on the core
   abbrev refusalBy : Decoded → ℕ
-  refusalBy d = refused (startTests k s program journal ++ wordTests d ++ fullTests k journal)
+  refusalBy d = refused (startTests k program b ++ wordTests d ++ fullTests k (b .journal))
 
   -- a step asks of the core what its word decodes to there, and nothing else
-  same-step : (a b : Facts) → decodedOn a (wordNow program journal) ≡ decodedOn b (wordNow program journal) → SameStep k a b s program journal
-  unfolding stepRefused stepState stepJournal
-  same-step a b e = let number = ap refusalBy e in record { answered = number; files = rw number refl; bytes = rw number refl }
+  same-step : (a o : Facts) → decodedOn a word ≡ decodedOn o word → stepped (coreOf k a) program b ≡ stepped (coreOf k o) program b
+  same-step a o e = step-by (coreOf k a) program b ∙ ap (λ (d : Decoded). stepBy k program b d) e ∙ sym (step-by (coreOf k o) program b)
 
   -- what fewer facts accept more facts accept, and the step leaves the same
-  pub step-on-more : (fewer more : Facts) → Among fewer more → stepRefused k fewer s program journal ≡ DONE → SameStep k more fewer s program journal
+  pub step-on-more : (fewer more : Facts) → Among fewer more → stepped (coreOf k fewer) program b .number ≡ DONE
+      → stepped (coreOf k more) program b ≡ stepped (coreOf k fewer) program b
   step-on-more fewer more all e =
-      let accepted = step-accepted k fewer s program journal e .word in
-      same-step more fewer (on-more fewer more all (wordNow program journal) _ accepted ∙ sym accepted)
+      let accepted = step-accepted (coreOf k fewer) program b e .word in same-step more fewer (on-more fewer more all word _ accepted ∙ sym accepted)
 
   -- with whatever facts a step is the one with all of them, or its word lacks what it needs and is refused with UNDEFINED, unless a test before
   -- the word's refuses
-  pub step-on-any : (facts : Facts) → SameStep k facts allFacts s program journal
-      ⊎ (Lacking facts (wordNow program journal) × (stepRefused k facts s program journal ≡ first (startTests k s program journal) UNDEFINED))
-  unfolding stepRefused
-  step-on-any facts = go (verdict facts (wordNow program journal))
+  pub step-on-any : (facts : Facts) → (stepped (coreOf k facts) program b ≡ stepped (coreOf k allFacts) program b)
+      ⊎ (Lacking facts word × (stepped (coreOf k facts) program b .number ≡ first (startTests k program b) UNDEFINED))
+  step-on-any facts = go (verdict facts word)
     where
-      alike : decodedOn facts (wordNow program journal) ≡ decoded (wordNow program journal) → SameStep k facts allFacts s program journal
-      alike e = same-step facts allFacts (e ∙ sym (on-all (wordNow program journal)))
+      alike : decodedOn facts word ≡ decoded word → stepped (coreOf k facts) program b ≡ stepped (coreOf k allFacts) program b
+      alike e = same-step facts allFacts (e ∙ sym (on-all word))
 
-      go : Verdict facts (wordNow program journal) → SameStep k facts allFacts s program journal
-          ⊎ (Lacking facts (wordNow program journal) × (stepRefused k facts s program journal ≡ first (startTests k s program journal) UNDEFINED))
-      go (unknown a b) = inl (alike (b ∙ sym a))
-      go (undefined a b) = inl (alike (b ∙ sym a))
-      go (accepted f g b) = inl (alike (b ∙ sym (g .decodes)))
-      go (lacking l b) = inr (l, ap refusalBy b)
+      go : Verdict facts word → (stepped (coreOf k facts) program b ≡ stepped (coreOf k allFacts) program b)
+          ⊎ (Lacking facts word × (stepped (coreOf k facts) program b .number ≡ first (startTests k program b) UNDEFINED))
+      go (unknown a d) = inl (alike (d ∙ sym a))
+      go (undefined a d) = inl (alike (d ∙ sym a))
+      go (accepted f g d) = inl (alike (d ∙ sym (g .decodes)))
+      go (lacking l d) = inr (l, step-number (coreOf k facts) program b ∙ ap refusalBy d)
 
 -- a name that fewer facts give more facts give
 pub name-on-more : (fewer more : Facts) → Among fewer more → (n word : ℕ) → nameRefused n word fewer ≡ DONE → nameRefused n word more ≡ DONE

@@ -36,6 +36,7 @@ use Rattle.meaning.specs.Meaning.{familyTerms, widthAfter}
 use Rattle.meaning.specs.Execute.{operandsOf, maskOf, feeds, integerAfter, widthFor, lanesFor, writtenFor, destinationAfter}
 use Rattle.meaning.specs.Needs.{Executable}
 use Rattle.meaning.specs.Theorems.{isExact, answerSigned}
+use Rattle.meaning.proofs.Effects.{sourceField, operand-bytes}
 use Rattle.meaning.proofs.Sizes.{false-not-true, k-most}
 
 -- a term may be read as signed whatever it is, and as unsigned if it is unsigned and added
@@ -147,10 +148,8 @@ take-bytes (suc n) (b ∷ bs) h (suc i) = take-bytes n bs (λ j. h (suc j)) i
 vector-bytes : (k r : ℕ) (z : List ℕ) → AreBytes z → AreBytes (vectorOf k r z)
 vector-bytes k r z h = take-bytes (vectorBytes k) (drop (r * vectorBytes k) z) (drop-bytes (r * vectorBytes k) z h)
 
-operand-bytes : (f : Fields) (k : ℕ) (s : State) → AreBytes (s .z) → (source : Source) → AreBytes (operandOf (operandsOf f k s) source)
-operand-bytes f k s h Operand1 = vector-bytes k (f .n) (s .z) h
-operand-bytes f k s h Operand2 = vector-bytes k (f .m) (s .z) h
-operand-bytes f k s h Old = vector-bytes k (f .d) (s .z) h
+operand-of-bytes : (f : Fields) (k : ℕ) (s : State) → AreBytes (s .z) → (source : Source) → AreBytes (operandOf (operandsOf f k s) source)
+operand-of-bytes f k s h source = rw (operand-bytes f k s source) (vector-bytes k (sourceField f source) (s .z) h)
 
 module _ (f : Fields) (k : ℕ) (s : State) where
   -- every lane that a word writes holds the sum of what feeds it modulo 2^width
@@ -164,6 +163,6 @@ module _ (f : Fields) (k : ℕ) (s : State) where
       → integer (answerSigned (formOf (f .row) .parameters)) (bitsOf (widthFor f)) (lane (widthFor f) e (destinationAfter f k s)) ≡ integerAfter f k s e
   answer-exact x b ex e h =
       ap (integer (answerSigned (formOf (f .row) .parameters)) (bitsOf (widthFor f))) (answer-modulo e h)
-      ∙ few-exact (operandsOf f k s) (operand-bytes f k s b) (answerSigned (formOf (f .row) .parameters)) (bitsOf (widthFor f)) (feeds f k s e)
+      ∙ few-exact (operandsOf f k s) (operand-of-bytes f k s b) (answerSigned (formOf (f .row) .parameters)) (bitsOf (widthFor f)) (feeds f k (maskOf f k s) e)
       (few-terms (familyOf (f .row)) (formOf (f .row) .parameters) k (f .q) (f .size) (maskOf f k s) e
       (k-most f k s x) (q-below (familyOf (f .row)) (x .fields .q)) (x .fields .size) ex)
