@@ -2,16 +2,21 @@
 -- Assumes nothing.
 use borrow.Author.Needs.{needs}
 use Prim.Native.Nat.{ℕ}
-use mathlib.Core.Path.{_≡_, sym, _∙_, ap₂}
+use mathlib.Core.Path.{_≡_, sym, _∙_, ap, ap₂}
 use mathlib.Core.Bool.{true, false}
 use mathlib.Core.List.{List}
 use denote.Ref.{now}
 use Rattle.machine.specs.Refusal.{DONE, FULL}
 use Rattle.machine.proofs.Checks.{legal-most}
+use Rattle.registers.specs.Register.{Register, vectorOf}
 use Rattle.registers.specs.State.{State, state}
 use Rattle.words.specs.declared.Fields.{Fields}
-use Rattle.meaning.proofs.Effects.{executed-state}
-use Rattle.entries.specs.Layout.{isFull}
+use Rattle.meaning.specs.Execute.{targetOf}
+use Rattle.meaning.specs.Needs.{Executable}
+use Rattle.meaning.proofs.Effects.{target-is, executed-state}
+use Rattle.entries.specs.Layout.{Entry, isFull, pushed}
+use Rattle.entries.specs.Restored.{entryOf}
+use Rattle.entries.proofs.Restored.{vector-entry}
 use Rattle.journal.specs.Left.{Buffers, buffersOf, leftWith}
 use Rattle.steps.specs.Calls.{performed, Performed}
 use Rattle.steps.specs.Needs.{CarriedOut}
@@ -24,11 +29,17 @@ full : (k : ℕ) (f : Fields) (b : Buffers) → isFull k (b .journal) ≡ true �
 unfolding performed
 full k f b h = rw h
 
-carried-out : (k : ℕ) (f : Fields) (b : Buffers) (z-after after : List ℕ) → isFull k (b .journal) ≡ false → CarriedOut k f b z-after after
+-- the entry that is appended is that of the register which the word writes
+entry-is : (k : ℕ) (f : Fields) (s : State) → Executable f k s → record { number = f .d; old = vectorOf k (f .d) (s .z) } ≡ entryOf k (targetOf f) s
+entry-is k f s x = sym (ap (λ (r : Register). entryOf k r s) (target-is f) ∙ vector-entry k (f .d) s (x .lent) (x .fields .d))
+
+carried-out : (k : ℕ) (f : Fields) (b : Buffers) (z-after after : List ℕ) → Executable f k (b .files) → isFull k (b .journal) ≡ false → CarriedOut k f b z-after after
     → Performed k f b DONE (buffersOf (state z-after (b .files .p)) after)
 unfolding performed
-carried-out k f b z-after after h c =
-    rw h (ap₂ (λ (s : State) (entries : List ℕ). leftWith DONE (buffersOf s entries)) (executed-state f k (b .files) z-after (c .vectors)) (c .entries))
+carried-out k f b z-after after x h c =
+    rw h
+    (ap₂ (λ (s : State) (entries : List ℕ). leftWith DONE (buffersOf s entries)) (executed-state f k (b .files) z-after (c .vectors))
+    (c .entries ∙ ap (λ (e : Entry). pushed k e (b .journal)) (entry-is k f (b .files) x)))
 
 -- where the function started, and where the word is carried out
 abbrev start : tie.After-is-full → tie.Start
@@ -64,7 +75,7 @@ returns-2 c =
     let x = carried (c .before) in
     let e = x .before .before .before in
     let s = start (e .before) in
-    carried-out (s .args .k) (s .args .f) (lent s) _ _ (fits e) (x .carry-out .ensures)
+    carried-out (s .args .k) (s .args .f) (lent s) _ _ (s .pre .word) (fits e) (x .carry-out .ensures)
 
 pub perform-spec : {M : Type 1} → statement M
 perform-spec =
