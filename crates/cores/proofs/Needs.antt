@@ -10,7 +10,7 @@ use lib.ListN.{replicate}
 use borrow.Author.Tests.{le-ltb}
 use Rattle.facts.specs.Facts.{allFacts, noFacts, Implies, Among}
 use Rattle.facts.specs.declared.Facts.{Facts}
-use Rattle.rows.specs.Table.{table, rows, rowAt, formFor}
+use Rattle.rows.specs.Table.{table, rows, rowAt, lineForm}
 use Rattle.rows.proofs.Every.{every, at-each}
 use Rattle.rows.specs.declared.Row.{Row}
 use Rattle.cores.specs.declared.Need.{Need}
@@ -18,7 +18,7 @@ use Rattle.cores.specs.declared.Need.the-variants.{Nothing, SveOrSme, Sv
 use Rattle.cores.specs.Need.{either, has, needFor, needOf}
 
 -- saddv and uaddv need SVE or SME, addqv SVE2p1 or SME2p1, saddlv and uaddlv nothing, the other eighteen SVE2 or SME
-pub row-needs : map (λ (r : Row). needFor (formFor (r .3) (r .4) (r .5) .family)) table
+pub row-needs : map (λ (line : Row). needFor (lineForm line .family)) table
     ≡ SveOrSme ∷ SveOrSme ∷ Sve2p1OrSme2p1 ∷ Nothing ∷ Nothing ∷ replicate 18 Sve2OrSme
 row-needs = refl
 

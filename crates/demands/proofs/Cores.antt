@@ -114,6 +114,7 @@ forbidden-text facts word text r reads lacks assembled = text-exactly facts text
     none : (w : ℕ) → ReadsAs facts w text → ⊥
     none w h =
         let (g, is) = done-word (decodedOn facts w) (h .accepted) in
-        let same : w ≡ word = reads-once allFacts text w word (record { below = h .below; accepted = ap numberOf (on-all w ∙ core-decodes facts w g is); reads = h .reads }) reads in
+        let known : ReadsAs allFacts w text = record { below = h .below; accepted = ap numberOf (on-all w ∙ core-decodes facts w g is); reads = h .reads } in
+        let same : w ≡ word = reads-once allFacts text w word known reads in
         let refused-there = undefined-on facts word .1 (inr lacks) in
         omega (arith, h .accepted, ap (λ (v : ℕ). numberOf (decodedOn facts v)) same)

@@ -47,7 +47,7 @@ module _ (c : Core) (program : List ℕ) (b : Buffers) (r : ℕ) (after : Buffer
   known : AcceptedStep c program b
   known = step-accepted c program b (sym (number-left (made .leaves)) ∙ done)
 
-  left : after .files ≡ executed f k s
+  pub left : after .files ≡ executed f k s
   left = ap (λ (x : Buffers). x .files) (buffers-left (made .leaves) ∙ known .left)
 
   -- the destination register holds what the word's meaning says

@@ -1,7 +1,7 @@
 -- Pieces written one after the other are one piece.
 -- Assumes nothing.
 use mathlib.Core.Path.{_≡_, refl, sym, _∙_, ap}
-use mathlib.Core.List.{List, [], _∷_, _++_}
+use mathlib.Core.List.{List, [], _∷_, _++_, append-assoc, append-nil}
 use Prim.Native.Nat.{ℕ, suc, _+_, _≤_}
 use native.Mathlib.Nat.{add-zero, zero-add, add-suc, suc-add}
 use native.Mathlib.Omega.{arith}
@@ -44,3 +44,26 @@ put-one l at b = record { bytes = refl; after = refl }
 pub put-front : {l m p : List ℕ} {next : ℕ} → length p ≤ length l → Put l 0 p m next → take next m ≡ p
 put-front {l} {m} {p} {next} h a =
     rw (a .bytes, a .after, zero-add (length p), sets-eq p l 0 (omega arith)) (take-at p _ (length p) refl)
+
+-- a text of which the front is written, the piece that is to be written next, and the rest after it
+pub record Begun (old text piece rest new : List ℕ) (at : ℕ) : Type 0 where
+  pub written : List ℕ
+  pub put : Put old 0 written new at
+  pub is : text ≡ written ++ (piece ++ rest)
+
+-- before the first piece nothing is written
+pub begun : {old text piece rest : List ℕ} → text ≡ piece ++ rest → Begun old text piece rest old 0
+begun {old} e = record { written = []; put = put-none old 0; is = e }
+
+-- where there is room for the text there is room for the piece; written, it leaves the next, or the whole text
+module _ {old text piece rest new : List ℕ} {at : ℕ} (b : Begun old text piece rest new at) where
+  pub begun-room : length text ≤ length old → at + length piece ≤ length new
+  begun-room h = room-first at piece rest (room-rest (piece ++ rest) (b .put) (omega (arith, ap length (b .is))))
+
+  module _ {last : List ℕ} {end : ℕ} (a : Put new at piece last end) where
+    pub begun-then : {next later : List ℕ} → rest ≡ next ++ later → Begun old text next later last end
+    begun-then e =
+        record { written = b .written ++ piece; put = put-then (b .put) a; is = b .is ∙ rw (← e) (sym (append-assoc (b .written) piece rest)) }
+
+    pub begun-all : rest ≡ [] → Put old 0 text last end
+    begun-all e = rw (b .is, e, append-nil piece) (put-then (b .put) a)

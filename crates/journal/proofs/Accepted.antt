@@ -12,7 +12,7 @@ use borrow.Author.Tests.{leb-true, leb-false, eqb-false, ne-eqb, eq-eqb, not-fal
 use Rattle.parts.proofs.Same.{both-right}
 use Rattle.machine.specs.Size.{isLegal, isProgram, wordBytes, mostWords}
 use Rattle.machine.specs.Refusal.{lengthTests, programTests, refused}
-use Rattle.machine.proofs.Tests.{first-none, none-refused, refused-later, unless-refused}
+use Rattle.machine.proofs.Tests.{first-none, first-after, none-refused, unless-refused}
 use Rattle.machine.proofs.Checks.{files-checked, legal-most}
 use Rattle.registers.specs.declared.Kind.the-variants.{Vector}
 use Rattle.registers.specs.State.{Sized}
@@ -91,7 +91,7 @@ unfolding backRefused
 returns-accepted k b r =
     let no : eqb (heldOf (b .journal)) 0 ≡ false = ne-eqb (heldOf (b .journal)) 0 (λ (e : heldOf (b .journal) ≡ 0). omega (arith, r .some)) in
     rw (r .sized .legal, eq-eqb _ _ (r .sized .vectorSize), eq-eqb _ _ (r .sized .predicateSize))
-    (refused-later (journalTests k (b .journal)) tt (refused (emptyTests (b .journal))) _ refl (formed-passes k (b .journal) (r .formed)) ∙ rw no)
+    (first-after (journalTests k (b .journal)) (refused (emptyTests (b .journal))) tt (formed-passes k (b .journal) (r .formed)) ∙ rw no)
 
 -- the last entry names a register, and lies inside
 pub can-take-back : (k : ℕ) (b : Buffers) → Returning k b → TakeBack k (b .files .z) (b .journal)

@@ -7,16 +7,15 @@ use Prim.Native.Nat.{ℕ, _*_, _%_, _≤_, _<_}
 use native.Mathlib.Omega.{arith}
 use lib.Dec.{eqb, ltb}
 use lib.ListN.{length}
-use borrow.Author.Tests.{ltb-false, leb-true, eq-eqb, ne-eqb, lt-ltb, le-ltb, lt-leb}
+use borrow.Author.Tests.{ltb-false, leb-true, eq-eqb, ne-eqb, le-ltb, lt-leb}
 use Rattle.parts.proofs.Same.{both-right}
 use Rattle.machine.specs.Size.{mostWords, wordBytes, isProgram, Files}
 use Rattle.machine.specs.Refusal.{DONE, OUT, Test, outTest, first, refused, filesTests, onlyWhere}
-use Rattle.machine.proofs.Tests.{first-before, first-after, first-none, none-refused, refused-early, unless-refused}
+use Rattle.machine.proofs.Tests.{first-after, first-none, none-refused, checked, unless-refused}
 use Rattle.machine.proofs.Checks.{files-checked}
 use Rattle.registers.specs.State.{State, read}
 use Rattle.programs.specs.declared.Next.{Next}
-use Rattle.programs.specs.Word.{wordAt, wordsOf, placeTests, wordFound, nextWord}
-use Rattle.programs.proofs.Words.{found-refused}
+use Rattle.programs.specs.Word.{wordAt, wordsOf, placeTests}
 use Rattle.programs.proofs.Reading.{word-exactly}
 use Rattle.facts.specs.declared.Facts.{Facts}
 use Rattle.words.specs.Decode.{decoded, numberOf, wordTests}
@@ -43,37 +42,6 @@ module _ (k : ℕ) (s : State) (program : List ℕ) (position n : ℕ) where
 
   abbrev last : ℕ
   last = cond (ltb n mostLine) OUT DONE
-
-  abbrev found : ℕ → Next
-  found r = wordFound r (wordAt program position) position
-
-  -- with a refusal no word is found
-  none-found : (r m : ℕ) → r ≡ m → (r ≡ 0 → ⊥) → record { number = r; word = 0; at = position } ≡ found m
-  none-found r m e h = sym (found-refused r (wordAt program position) position h) ∙ ap found e
-
-  -- the length or the files refuse
-  pub by-files : (r : ℕ) → r ≡ refused files → (r ≡ 0 → ⊥) → record { number = r; word = 0; at = position } ≡ askedWord k s program position n
-  by-files r e h = none-found r _ (refused-early files tt (first places last) r e h) h
-
-  module _ (files-right : refused files ≡ 0) where
-    -- the program or the place refuses
-    pub by-place : (next : Next) → next ≡ nextWord program position → (next .number ≡ 0 → ⊥) → next ≡ askedWord k s program position n
-    by-place next e h =
-        e
-        ∙ ap found
-        (first-before places last (λ z. h (ap (λ (m : Next). m .number) e ∙ z)) ∙ sym (first-after files (first places last) tt files-right))
-
-    -- where neither the files nor the place refuse, the output decides
-    past : refused places ≡ 0 → refused (placedTests k s program position n) ≡ last
-    past place-right = first-after files (first places last) tt files-right ∙ first-after places last tt place-right
-
-    pub by-out : refused places ≡ 0 → n < mostLine → record { number = OUT; word = 0; at = position } ≡ askedWord k s program position n
-    by-out place-right short = none-found OUT _ (sym (past place-right ∙ rw (lt-ltb _ _ short))) (λ e. omega arith)
-
-    pub by-none : (next : Next) → next ≡ nextWord program position → next .number ≡ 0 → mostLine ≤ n → next ≡ askedWord k s program position n
-    by-none next e h room =
-        let place-right = sym (ap (λ (m : Next). m .number) e) ∙ h in
-        e ∙ ap found (place-right ∙ sym (past place-right ∙ rw (le-ltb _ _ room)))
 
   -- the word that is found
   pub found-right : (next : Next) → next ≡ askedWord k s program position n → next .number ≡ 0 → refused (placedTests k s program position n) ≡ 0
@@ -132,8 +100,7 @@ module _ (k : ℕ) (s : State) (program : List ℕ) (position n : ℕ) where
   -- what a line is asked of refuses
   pub early : (facts : Facts) (number r : ℕ) → r ≡ refused (placedTests k s program position n) → (r ≡ 0 → ⊥) → r ≡ lineRefused k facts s program position number n
   unfolding lineRefused
-  early facts number r e h =
-      refused-early (placedTests k s program position n) tt (refused (onlyWhere (eqb number DONE) (wordTests (decodedOn facts (wordAt program position))))) r e h
+  early facts number r e h = checked (placedTests k s program position n) tt refl e .refuses h
 
 -- the line of a refused step, and of an accepted one
 module _ (k : ℕ) (s : State) (program : List ℕ) (position number word : ℕ) (is : word ≡ wordAt program position) where

@@ -232,7 +232,8 @@ pub extern "C" fn ln_step(
 // Takes the last step back, or LENGTH, FILE, ROOM, JOURNAL or EMPTY.
 #[no_mangle]
 pub extern "C" fn ln_back(k: usize, z: &mut [u8], p: &[u8], journal: &mut [u8]) -> u64
-    ensures { λ r. ⌜ Backed k (buffersOf (state (now (z .entry)) (now (p .entry))) (now (journal .entry))) r (buffersOf (state (now (z .exit)) (now (p .entry))) (now (journal .exit))) ⌝ }
+    ensures { λ r. ⌜ Backed k (buffersOf (state (now (z .entry)) (now (p .entry))) (now (journal .entry)))
+        r (buffersOf (state (now (z .exit)) (now (p .entry))) (now (journal .exit))) ⌝ }
 {
     steps::back(k, z, p, journal) as u64
 }

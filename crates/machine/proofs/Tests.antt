@@ -57,15 +57,18 @@ pub unless-refused : {X : Type 0} (n : ℕ) (done other : X) → (n ≡ DONE →
 unless-refused zero done other h = absurd (h refl)
 unless-refused (suc n) done other h = refl
 
--- checks in sequence: a check that makes the first tests answers their refusal
-module _ (tests : List Test) (ok : Refuse tests) (after r : ℕ) (answers : r ≡ refused tests) where
-  -- the number of a check that refuses is the call's
-  pub refused-early : (r ≡ 0 → ⊥) → r ≡ first tests after
-  refused-early h = answers ∙ first-before tests after (λ e. h (answers ∙ e))
+-- checks in sequence: what a check that answers r tells of the number of the whole call, and of the rest that is tested after it
+pub record Checked (r whole rest : ℕ) : Type 0 where
+  pub refuses : (r ≡ 0 → ⊥) → r ≡ whole
+  pub passes : r ≡ 0 → whole ≡ rest
 
-  -- past a check that does not refuse, the tests after it decide
-  pub refused-later : r ≡ 0 → first tests after ≡ after
-  refused-later h = first-after tests after ok (sym answers ∙ h)
+-- it tells this where it makes the first tests, or the first of those that are left past the checks before it
+pub checked : (tests : List Test) → Refuse tests → {whole rest r : ℕ} → whole ≡ first tests rest → r ≡ refused tests → Checked r whole rest
+checked tests ok {rest = rest} so-far answers =
+    record {
+      refuses = λ h. answers ∙ first-before tests rest (λ e. h (answers ∙ e)) ∙ sym so-far;
+      passes = λ h. so-far ∙ first-after tests rest ok (sym answers ∙ h);
+    }
 
 -- where a call does not refuse, neither do the tests before nor those after
 pub none-refused : (tests : List Test) → Refuse tests → (after : ℕ) → first tests after ≡ 0 → (refused tests ≡ 0) × (after ≡ 0)

@@ -13,7 +13,7 @@ use borrow.Author.Tests.{eqb-true, leb-true, eq-eqb, ne-eqb}
 use Rattle.parts.specs.Part.{both, sameBytes}
 use Rattle.parts.specs.Text.{bytes}
 use Rattle.parts.proofs.Same.{both-left, both-right, same-true, same-not}
-use Rattle.rows.specs.Table.{nameBytes, rows, rowAt, table, noRow}
+use Rattle.rows.specs.Table.{nameBytes, rows, rowAt, table, noRow, lineName}
 use Rattle.rows.specs.declared.Row.{Row}
 use Rattle.rows.proofs.Every.{every, at-each}
 use Rattle.rows.proofs.Rows.{at-any, row-read}
@@ -61,11 +61,11 @@ pub short-not : (key text : List ℕ) → nameBytes ≡ length key → length te
 short-not key text size short = same-not key (take nameBytes text) (λ e. omega (arith, size, ap length e, length-take nameBytes text))
 
 -- the six bytes of a line of the table at hand
-pub line-key : (lines : List Row) (i : ℕ) (outside : Row) → lines ≡ table → i < rows → getD lines i outside .0 ≡ keyOf i
+pub line-key : (lines : List Row) (i : ℕ) (outside : Row) → lines ≡ table → i < rows → lineName (getD lines i outside) ≡ keyOf i
 unfolding keyOf
-line-key lines i outside is h = ap (λ (r : Row). r .0) (row-read lines i outside is h)
+line-key lines i outside is h = ap lineName (row-read lines i outside is h)
 
-pub line-size : (lines : List Row) (i : ℕ) (outside : Row) → lines ≡ table → i < rows → nameBytes ≡ length (getD lines i outside .0)
+pub line-size : (lines : List Row) (i : ℕ) (outside : Row) → lines ≡ table → i < rows → nameBytes ≡ length (lineName (getD lines i outside))
 line-size lines i outside is h = sym (ap length (line-key lines i outside is h) ∙ row-good i h .key)
 
 -- two results that the contract of `row_named` allows are the same
@@ -75,7 +75,7 @@ row-named-determined text r s p q = p ∙ sym q
 -- the keys are a table
 key-at : (row : ℕ) → row < rows → getD keys row [] ≡ keyOf row
 unfolding keyOf rowAt
-key-at row h = at-any keys row [] (noRow .0) h ∙ List·getD-map (λ (r : Row). r .0) table row noRow
+key-at row h = at-any keys row [] (lineName noRow) h ∙ List·getD-map lineName table row noRow
 
 -- the search among the keys from a row on stops there or goes on at the next
 key-step : (i : ℕ) (bytes : List ℕ) → i < rows

@@ -1,7 +1,7 @@
--- The pieces of a text in turn, and how long it may be: 26 bytes, which one text has.
+-- The operands of a text in turn, and how long it may be: 26 bytes, which one text has.
 -- Assumes nothing.
-use mathlib.Core.Path.{_≡_, refl, _∙_, ap}
-use mathlib.Core.List.{List, [], _∷_, _++_, append-assoc, append-nil}
+use mathlib.Core.Path.{_≡_, refl}
+use mathlib.Core.List.{List, [], _∷_, _++_}
 use mathlib.Core.Bool.{Bool, true, false}
 use Prim.Native.Nat.{ℕ, zero, suc, _+_, _^_, _≤_, _<_}
 use native.Mathlib.Nat.{lt-of-lt-of-le}
@@ -13,7 +13,7 @@ use Rattle.parts.specs.Text.{bytes}
 use Rattle.machine.specs.Size.{sizes}
 use Rattle.rows.specs.Digits.{digitsAnd}
 use Rattle.rows.specs.Table.{rowAt, rowOf, familyOf, formOf, matches, placeFrom}
-use Rattle.words.specs.Field.{registerDigits, governingDigits, secondDigits, qDigits}
+use Rattle.words.specs.Field.{governingDigits, secondDigits, qDigits}
 use Rattle.words.specs.Decode.{decoded}
 use Rattle.words.specs.Encode.{InRange}
 use Rattle.rows.specs.declared.Family.{Family}
@@ -28,7 +28,6 @@ use Rattle.words.proofs.Decoding.{governing-below, second-below, q-below}
 use Rattle.words.proofs.Encoding.{decoded-in-range}
 use Rattle.rows.proofs.Every.{every, at-each}
 use Rattle.digits.specs.Digits.{digitOf, digitsIn, widthWithin, decimalWidth, decimal}
-use Rattle.digits.proofs.Puts.{room-first}
 use Rattle.digits.proofs.Decimals.{decimal-short}
 use Rattle.operands.specs.declared.Operand.{Operand}
 use Rattle.operands.specs.Operands.{letterOf, lanesOf, operandText, further, destinationOperand, governingOperand, sourceOperand}
@@ -36,38 +35,26 @@ use Rattle.names.specs.Text.{keyOf, nameOf, whereIn, following, listed, 
 use Rattle.names.specs.Named.{leastOut, mostText, textOfDecoded, textOfWord}
 use Rattle.names.proofs.Keys.{row-good}
 
--- the text as it is written: the name with its space, the destination and the further operands
-abbrev pub front : Fields → Operand → List ℕ
-front f o = nameOf (f .row) ++ bytes " " ++ operandText o
+-- the operands of a word of a form: the second source, the sources, and all that follow the destination
+abbrev pub seconds : Form → Fields → List Operand
+seconds form f = whereIn (secondDigits (form .family)) (sourceOperand (form .family) false (f .m) f) []
 
-abbrev pub pieces : Family → Bool → Fields → List ℕ
-pieces family wide f =
-    front f (destinationOperand family f)
-    ++ further (governingDigits family) (governingOperand family f)
-    ++ further registerDigits (sourceOperand family wide (f .n) f)
-    ++ further (secondDigits family) (sourceOperand family false (f .m) f)
+abbrev pub sources : Form → Fields → List Operand
+sources form f = sourceOperand (form .family) (form .parameters .wide) (f .n) f ∷ seconds form f
 
--- an operand that is there or not, before others
-following-where : (digits : ℕ) (o : Operand) (os : List Operand) → following (whereIn digits o os) ≡ further digits o ++ following os
-following-where zero o os = refl
-following-where (suc digits) o os = refl
+abbrev pub others : Form → Fields → List Operand
+others form f = whereIn (governingDigits (form .family)) (governingOperand (form .family) f) (sources form f)
 
-regroup : (a t u v w : List ℕ) → a ++ (t ++ (u ++ (v ++ (w ++ [])))) ≡ a ++ t ++ u ++ v ++ w
-regroup a t u v w = simp (append-assoc, append-nil)
-
-pub text-pieces : (f : Fields) → textOf f ≡ pieces (familyOf (f .row)) (formOf (f .row) .parameters .wide) f
+-- the text of a word of a form: the name with its space, the destination, and the operands that follow it
+pub text-form : (form : Form) (f : Fields) → form ≡ formOf (f .row)
+    → textOf f ≡ nameOf (f .row) ++ bytes " " ++ (operandText (destinationOperand (form .family) f) ++ following (others form f))
 unfolding textOf
-text-pieces f =
-    let family = familyOf (f .row) in
-    let front = nameOf (f .row) ++ bytes " " in
-    let o = destinationOperand family f in
-    let p = governingOperand family f in
-    let n = sourceOperand family (formOf (f .row) .parameters .wide) (f .n) f in
-    let m = sourceOperand family false (f .m) f in
-    ap (λ (l : List ℕ). front ++ (operandText o ++ l))
-    (following-where (governingDigits family) p (n ∷ whereIn (secondDigits family) m [])
-    ∙ ap (λ (l : List ℕ). further (governingDigits family) p ++ (further registerDigits n ++ l)) (following-where (secondDigits family) m []))
-    ∙ regroup front (operandText o) (further (governingDigits family) p) (further registerDigits n) (further (secondDigits family) m)
+text-form form f e = rw e
+
+-- an operand that follows where its field has digits, before others
+pub following-where : {d digits : ℕ} {p o : Operand} (os : List Operand) → d ≡ digits → p ≡ o → following (whereIn digits o os) ≡ further d p ++ following os
+following-where {digits = zero} os ed ep = rw ed
+following-where {digits = suc digits} os ed ep = rw (ed, ep)
 
 -- counts of lanes and registers' numbers have two digits at most
 lanesShort : ℕ → ℕ → Bool
@@ -108,35 +95,9 @@ text-length f r = go (familyOf (f .row)) (formOf (f .row) .parameters .wide) (r 
         by (Wide Pairwise) a d n g m l w = simp length-append (omega arith)
         by (Wide Widening) a d n g m l w = simp length-append (omega arith)
 
--- the pieces as a caller has them: each the one of its family, the digits of its field first where it may be missing
-module _ (f : Fields) (form : Form) (is : form ≡ formOf (f .row)) (o : Operand) (first : o ≡ destinationOperand (form .family) f) where
-  pub text-written : (g : ℕ) (p n : Operand) (s : ℕ) (m : Operand) → g ≡ governingDigits (form .family) → p ≡ governingOperand (form .family) f
-      → n ≡ sourceOperand (form .family) (form .parameters .wide) (f .n) f → s ≡ secondDigits (form .family) → m ≡ sourceOperand (form .family) false (f .m) f
-      → textOf f ≡ front f o ++ further g p ++ further registerDigits n ++ further s m
-  text-written g p n s m eg ep en es em = rw (first, eg, ep, en, es, em, is) (text-pieces f)
-
-  -- there is room for each in an output that naming takes
-  module _ (r : InRange f) (room : ℕ) (long : leastOut ≤ room) where
-    pub room-four : (g : ℕ) (p n : Operand) (s : ℕ) (m : Operand) → g ≡ governingDigits (form .family) → p ≡ governingOperand (form .family) f
-        → n ≡ sourceOperand (form .family) (form .parameters .wide) (f .n) f → s ≡ secondDigits (form .family) → m ≡ sourceOperand (form .family) false (f .m) f
-        → 0 + length (front f o ++ further g p ++ further registerDigits n ++ further s m) ≤ room
-    room-four g p n s m eg ep en es em =
-        rw (← text-written g p n s m eg ep en es em) (omega (arith, text-length f r))
-
-    pub room-three : (g : ℕ) (p n : Operand) → g ≡ governingDigits (form .family) → p ≡ governingOperand (form .family) f
-        → n ≡ sourceOperand (form .family) (form .parameters .wide) (f .n) f
-        → 0 + length (front f o ++ further g p ++ further registerDigits n) ≤ room
-    room-three g p n eg ep en =
-        room-first 0 (front f o ++ further g p ++ further registerDigits n) (further (secondDigits (form .family)) (sourceOperand (form .family) false (f .m) f))
-        (room-four g p n _ _ eg ep en refl refl)
-
-    pub room-two : (g : ℕ) (p : Operand) → g ≡ governingDigits (form .family) → p ≡ governingOperand (form .family) f
-        → 0 + length (front f o ++ further g p) ≤ room
-    room-two g p eg ep =
-        room-first 0 (front f o ++ further g p) (further registerDigits (sourceOperand (form .family) (form .parameters .wide) (f .n) f)) (room-three g p _ eg ep refl)
-
-    pub room-one : 0 + length (front f o) ≤ room
-    room-one = room-first 0 (front f o) (further (governingDigits (form .family)) (governingOperand (form .family) f)) (room-two _ _ refl refl)
+-- there is room for it in an output that naming takes
+pub text-fits : (f : Fields) → InRange f → (room : ℕ) → leastOut ≤ room → length (textOf f) ≤ room
+text-fits f r room long = omega (arith, text-length f r)
 
 -- the text of any word has at most the bytes of the longest
 pub word-length : (word : ℕ) → length (textOfWord word) ≤ mostText

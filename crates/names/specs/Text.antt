@@ -8,9 +8,8 @@ use lib.Dec.{eqb}
 use lib.ListN.{take, length}
 use Rattle.parts.specs.Part.{sameBytes}
 use Rattle.parts.specs.Text.{bytes}
-use Rattle.rows.specs.Table.{nameBytes, table, rowAt, familyOf, formOf}
+use Rattle.rows.specs.Table.{nameBytes, lineName, table, rowAt, familyOf, formOf}
 use Rattle.words.specs.Field.{governingDigits, secondDigits}
-use Rattle.rows.specs.declared.Row.{Row}
 use Rattle.rows.specs.declared.Family.{Family}
 use Rattle.words.specs.declared.Fields.{Fields}
 use Rattle.operands.specs.declared.Operand.{Operand}
@@ -18,7 +17,7 @@ use Rattle.operands.specs.Operands.{operandText, destinationOperand, governingO
 
 -- the first six bytes of a text of a row: a name of five letters has its space among them
 unfoldable pub keyOf : ℕ → List ℕ
-keyOf row = rowAt row .0
+keyOf row = lineName (rowAt row)
 
 -- six bytes that are the first of a text of a row
 pub record Key (row : ℕ) (r : List ℕ) : Type 0 where
@@ -36,7 +35,7 @@ nameOf row = upToSpace (keyOf row)
 
 -- every row's first six bytes, its key; and the place of the first key that some bytes are, counted from i, past the last where none is
 abbrev pub keys : List (List ℕ)
-keys = map (λ (r : Row). r .0) table
+keys = map lineName table
 
 unfoldable pub keyFrom : ℕ → List (List ℕ) → List ℕ → ℕ
 keyFrom i [] bytes = i

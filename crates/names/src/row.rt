@@ -6,7 +6,7 @@ ghost use mathlib.Core.Path.{_≡_};
 ghost use Prim.Native.Nat.{_<_};
 ghost use lib.ListN.{length, take};
 ghost use Rattle.parts.specs.Part.{sameBytes};
-ghost use Rattle.rows.specs.Table.{nameBytes, rows};
+ghost use Rattle.rows.specs.Table.{nameBytes, lineName, rows};
 ghost use Rattle.names.specs.Text.{rowNamed, Key};
 
 // The first six bytes of a text of a row.
@@ -20,8 +20,8 @@ pub fn key_of(row: usize) -> [u8; NAME]
 
 // Whether a text's first six bytes are those of a line of the table.
 fn is_named(text: &[u8], line: Row) -> bool
-    requires { ⌜ nameBytes ≡ length (line .0) ⌝ }
-    ensures { λ r. ⌜ r ≡ sameBytes (line .0) (take nameBytes (now (text .entry))) ⌝ }
+    requires { ⌜ nameBytes ≡ length (lineName line) ⌝ }
+    ensures { λ r. ⌜ r ≡ sameBytes (lineName line) (take nameBytes (now (text .entry))) ⌝ }
 {
     if text.len() < NAME {
         return false;

@@ -6,15 +6,10 @@ use mathlib.Core.List.{List}
 use denote.Ref.{RefT, now, ptr}
 use Rattle.machine.proofs.Tests.{one-result}
 use Rattle.registers.specs.declared.Kind.{Kind}
-use Rattle.pane.specs.Drawn.{registerRefused, registerPart, registerPlace}
+use Rattle.pane.specs.Drawn.{registerRefused, IsPart}
 
 pub register-refusal-determined : (k : ℕ) (z p : List ℕ) (kind : Kind) (r a b : ℕ) → a ≡ registerRefused k z p kind r → b ≡ registerRefused k z p kind r → a ≡ b
 register-refusal-determined k z p kind r = one-result (registerRefused k z p kind r)
-
--- what the contract of `register` says of a part
-abbrev pub IsPart : ℕ → RefT (List ℕ) → RefT (List ℕ) → Kind → ℕ → RefT (List ℕ) → Type 0
-IsPart k z p kind r a =
-    (now a ≡ registerPart k (now z) (now p) kind r) × (ptr a ≡ registerPlace k z p kind r)
 
 -- two parts that the contract of `register` allows have the same bytes, at the same place in memory
 pub register-determined : (k : ℕ) (z p : RefT (List ℕ)) (kind : Kind) (r : ℕ) (a b : RefT (List ℕ)) → IsPart k z p kind r a → IsPart k z p kind r b

@@ -1,5 +1,6 @@
 -- A register's bytes for drawing: the part of its file that holds it, and where that part lies.
 use Prim.Native.Nat.{ℕ, _+_, _<_}
+use mathlib.Core.Path.{_≡_}
 use mathlib.Core.List.{List, [], _∷_, _++_}
 use denote.Ref.{RefT, now, ptr}
 use lib.Dec.{leb}
@@ -38,3 +39,8 @@ bytesOn n a = (a .0, n + a .1)
 abbrev pub registerPlace : ℕ → RefT (List ℕ) → RefT (List ℕ) → Kind → ℕ → Place
 registerPlace k z p kind r =
     unlessRefused (registerRefused k (now z) (now p) kind r) (bytesOn (registerAt k kind r) (ptr (fileOf kind z p))) (ptr z)
+
+-- a part with these bytes at this place, which is what the call for a register promises
+abbrev pub IsPart : ℕ → RefT (List ℕ) → RefT (List ℕ) → Kind → ℕ → RefT (List ℕ) → Type 0
+IsPart k z p kind r a =
+    (now a ≡ registerPart k (now z) (now p) kind r) × (ptr a ≡ registerPlace k z p kind r)

@@ -5,6 +5,8 @@ ghost use Rattle.pane.specs.Drawn.{registerRefused, registerPart, regist
 use machine::refusal;
 use registers::Kind;
 
+mod held;
+
 // The refusal of a register that is to be drawn: LENGTH, FILE, RANGE or DONE.
 pub fn register_refusal(k: usize, z: &[u8], p: &[u8], kind: Kind, number: usize) -> u8
     ensures { λ r. ⌜ r ≡ registerRefused k (now (z .entry)) (now (p .entry)) kind number ⌝ }

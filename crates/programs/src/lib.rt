@@ -7,6 +7,7 @@ ghost use Rattle.programs.specs.Word.{wordAt, nextWord};
 use machine::Length;
 use machine::refusal;
 
+mod held;
 pub mod reader;
 
 // What stands at a place of a program: the number, the word, which is 0 with a refusal, and the place that comes next.

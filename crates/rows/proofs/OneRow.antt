@@ -8,7 +8,7 @@ use lib.Dec.{eqb}
 use lib.ListN.{length}
 use borrow.Author.Tests.{eq-eqb, eqb-true}
 use Rattle.rows.specs.Digits.{digitsAnd, wordDigits}
-use Rattle.rows.specs.Table.{table, rows, rowAt, rowOf, matches}
+use Rattle.rows.specs.Table.{lineMask, lineValue, table, rows, rowAt, rowOf, matches}
 use Rattle.rows.specs.declared.Row.{Row}
 use Rattle.rows.proofs.Digits.{and-swap}
 use Rattle.rows.proofs.Every.{every, at-each}
@@ -20,7 +20,7 @@ rows-counted = refl
 
 -- two rows whose values differ within the digits that both masks have
 unfoldable pub apart : Row → Row → Bool
-apart r s = not (eqb (digitsAnd wordDigits (r .2) (s .1)) (digitsAnd wordDigits (s .2) (r .1)))
+apart r s = not (eqb (digitsAnd wordDigits (lineValue r) (lineMask s)) (digitsAnd wordDigits (lineValue s) (lineMask r)))
 
 -- the rows at two places are one row or stand apart
 unfoldable pub oneOrApart : ℕ → ℕ → Bool
@@ -40,9 +40,9 @@ unfolding matches apart
 not-apart r s word e f =
     ap not
     (eq-eqb _ _
-    (ap (λ (v : ℕ). digitsAnd wordDigits v (s .1)) (sym (eqb-true _ _ e))
-    ∙ and-swap wordDigits word (r .1) (s .1)
-    ∙ ap (λ (v : ℕ). digitsAnd wordDigits v (r .1)) (eqb-true _ _ f)))
+    (ap (λ (v : ℕ). digitsAnd wordDigits v (lineMask s)) (sym (eqb-true _ _ e))
+    ∙ and-swap wordDigits word (lineMask r) (lineMask s)
+    ∙ ap (λ (v : ℕ). digitsAnd wordDigits v (lineMask r)) (eqb-true _ _ f)))
 
 -- no word matches two rows
 pub at-most-one-row : (i j word : ℕ) → i < rows → j < rows → matches (rowAt i) word ≡ true → matches (rowAt j) word ≡ true → i ≡ j

@@ -27,6 +27,25 @@ spaced name = take nameBytes (name ++ bytes " ")
 abbrev pub row : String → ℕ → ℕ → Operation → Bool → Bool → Row
 row name mask value operation signed top = (spaced (bytes name), mask, value, operation, signed, top)
 
+-- what stands in a line, by name
+abbrev pub lineName : Row → List ℕ
+lineName line = line .0
+
+abbrev pub lineMask : Row → ℕ
+lineMask line = line .1
+
+abbrev pub lineValue : Row → ℕ
+lineValue line = line .2
+
+abbrev pub lineOperation : Row → Operation
+lineOperation line = line .3
+
+abbrev pub lineSigned : Row → Bool
+lineSigned line = line .4
+
+abbrev pub lineTop : Row → Bool
+lineTop line = line .5
+
 abbrev pub table : List Row
 table =
     row "saddv" 0xFF3FE000 0x04002000 Reduce true false
@@ -67,10 +86,10 @@ unfoldable pub rowAt : ℕ → Row
 rowAt i = getD table i noRow
 
 abbrev pub rowMask : ℕ → ℕ
-rowMask i = rowAt i .1
+rowMask i = lineMask (rowAt i)
 
 abbrev pub rowValue : ℕ → ℕ
-rowValue i = rowAt i .2
+rowValue i = lineValue (rowAt i)
 
 -- the form of a family, by whether its first source has the full width, whether its second source is subtracted, and its elements
 abbrev pub formWith : Family → Bool → Bool → Bool → Bool → Form
@@ -88,16 +107,19 @@ formFor SubLong = formWith (Wide Widening) false true
 formFor AddWide = formWith (Wide Widening) true false
 formFor SubWide = formWith (Wide Widening) true true
 
--- the form of the row at a place, and its family
+-- the form of a line; of the row at a place, and its family
+abbrev pub lineForm : Row → Form
+lineForm line = formFor (lineOperation line) (lineSigned line) (lineTop line)
+
 abbrev pub formOf : ℕ → Form
-formOf i = formFor (rowAt i .3) (rowAt i .4) (rowAt i .5)
+formOf i = lineForm (rowAt i)
 
 abbrev pub familyOf : ℕ → Family
 familyOf i = formOf i .family
 
 -- whether a word is of a row: word AND mask = value
 unfoldable pub matches : Row → ℕ → Bool
-matches r word = eqb (digitsAnd wordDigits word (r .1)) (r .2)
+matches line word = eqb (digitsAnd wordDigits word (lineMask line)) (lineValue line)
 
 -- the place of the first of some rows that matches a word, counted from i; past the last where none does
 unfoldable pub placeFrom : ℕ → List Row → ℕ → ℕ

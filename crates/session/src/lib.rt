@@ -2,8 +2,8 @@
 ghost use mathlib.Core.Path.{_≡_};
 ghost use Prim.Native.Nat.{_≤_};
 ghost use lib.ListN.{length};
-ghost use Rattle.session.specs.Layout.{leastHeader, mostHeader, sessionVersion, sessionHeader, Header, factsByteIn};
-ghost use Rattle.session.specs.Layout.{isHeaded, endAt, isSized, mostSession, placed as placedAt, noSession, sessionOf};
+ghost use Rattle.session.specs.Body.{countPlace, factsPlace, filesPlace, factsIn, endAt, isSized, placed as placedAt, noSession, bodyOf};
+ghost use Rattle.session.specs.Layout.{lengthAt, mostHeader, sessionVersion, isHeaded, mostSession, sessionOf};
 ghost use Rattle.machine.specs.Size.{mostLength, mostWords};
 use facts::Facts;
 use machine::Length;
@@ -40,19 +40,13 @@ pub const COUNT_BYTES: usize = 2;
 
 pub const FACTS_BYTES: usize = 1;
 
-// Where each field stands; in the first version the vector file stands where the facts would.
+// Where the version stands, and where k, with which the body starts.
 pub const VERSION_AT: usize = MARK_BYTES;
 
 pub const LENGTH_AT: usize = VERSION_AT + VERSION_BYTES;
 
-pub const COUNT_AT: usize = LENGTH_AT + LENGTH_BYTES;
-
-pub const FACTS_AT: usize = COUNT_AT + COUNT_BYTES;
-
-// The bytes of the least header, which has no facts, and of the longest, which has them.
-pub const LEAST_HEADER: usize = FACTS_AT;
-
-pub const MOST_HEADER: usize = FACTS_AT + FACTS_BYTES;
+// The bytes of the longest header, which has facts.
+pub const MOST_HEADER: usize = LENGTH_AT + LENGTH_BYTES + COUNT_BYTES + FACTS_BYTES;
 
 // The bytes of the longest session.
 pub const MOST_SESSION: usize = MOST_HEADER
@@ -67,50 +61,46 @@ pub fn most_session() -> usize
     MOST_SESSION
 }
 
-// The version.
-fn version_of(bytes: &[u8]) -> u64
-    requires { ⌜ leastHeader ≤ length (now bytes) ⌝ }
-    ensures { λ r. ⌜ r ≡ sessionVersion (now (bytes .entry)) ⌝ }
+// Where the count of a body stands that starts so, and where its facts.
+fn count_place(start: usize) -> usize
+    requires { ⌜ start ≤ lengthAt ⌝ }
+    ensures { λ r. ⌜ r ≡ countPlace start ⌝ }
 {
-    parts::number_at(bytes, VERSION_AT, VERSION_BYTES)
+    start + LENGTH_BYTES
 }
 
-// Whether the bytes start with the mark and one of the versions.
-fn is_headed(bytes: &[u8]) -> bool
-    requires { ⌜ leastHeader ≤ length (now bytes) ⌝ }
-    ensures { λ r. ⌜ r ≡ isHeaded (now (bytes .entry)) ⌝ }
+fn facts_place(start: usize) -> usize
+    requires { ⌜ start ≤ lengthAt ⌝ }
+    ensures { λ r. ⌜ r ≡ factsPlace start ⌝ }
 {
-    if !check::same(&bytes[..MARK_BYTES], &MARK) {
-        return false;
-    }
-    let version = version_of(bytes);
-    version == FIRST_VERSION || version == FACTS_VERSION
+    count_place(start) + COUNT_BYTES
 }
 
-// The bytes before the vector file.
-fn header_of(version: u64) -> usize
-    ensures { λ r. ⌜ Header version r ⌝ }
+// Where its files start: past the facts where they are told, else in their place.
+fn files_place(start: usize, told: bool) -> usize
+    requires { ⌜ start ≤ lengthAt ⌝ }
+    ensures { λ r. ⌜ r ≡ filesPlace start told ⌝ }
 {
-    if version == FACTS_VERSION {
-        MOST_HEADER
+    if told {
+        facts_place(start) + FACTS_BYTES
     } else {
-        LEAST_HEADER
+        facts_place(start)
     }
 }
 
-// The byte of facts, which stands for all in the first version.
-fn facts_byte(version: u64, bytes: &[u8]) -> u8
-    requires { ⌜ sessionHeader version ≤ length (now bytes) ⌝ }
-    ensures { λ r. ⌜ r ≡ factsByteIn version (now (bytes .entry)) ⌝ }
+// Its byte of facts, which stands for all where they are not told.
+fn facts_byte(bytes: &[u8], start: usize, told: bool) -> u8
+    requires { ⌜ (start ≤ lengthAt) × (filesPlace start told ≤ length (now bytes)) ⌝ }
+    ensures { λ r. ⌜ r ≡ factsIn start told (now (bytes .entry)) ⌝ }
 {
-    if version == FACTS_VERSION {
-        bytes[FACTS_AT]
+    if told {
+        bytes[facts_place(start)]
     } else {
         facts::ALL
     }
 }
 
-// Where the words end past such a header.
+// Where the words end past so many bytes.
 fn end_of(header: usize, k: usize, count: usize) -> usize
     requires { ⌜ (header ≤ mostHeader) × (k ≤ mostLength) × (count ≤ mostWords) ⌝ }
     ensures { λ r. ⌜ r ≡ endAt header k count ⌝ }
@@ -120,7 +110,7 @@ fn end_of(header: usize, k: usize, count: usize) -> usize
     header + length.vector_file() + length.predicate_file() + words
 }
 
-// A session of this length and count past such a header, where its parts lie, and its facts.
+// The length, the count, where the parts past so many bytes lie, and the facts.
 fn placed(header: usize, k: usize, count: usize, facts: Facts) -> Session
     requires { ⌜ (header ≤ mostHeader) × (k ≤ mostLength) × (count ≤ mostWords) ⌝ }
     ensures { λ r. ⌜ r ≡ placedAt header k count facts ⌝ }
@@ -141,19 +131,15 @@ fn placed(header: usize, k: usize, count: usize, facts: Facts) -> Session
     }
 }
 
-// Whether the length is legal, the words are not too many, and a session of both has n bytes past such a header.
-fn is_sized(header: usize, k: usize, count: usize, n: usize) -> bool
-    requires { ⌜ header ≤ mostHeader ⌝ }
-    ensures { λ r. ⌜ r ≡ isSized header k count n ⌝ }
+// Whether the length is legal, and the words are not too many.
+fn is_sized(k: usize, count: usize) -> bool
+    ensures { λ r. ⌜ r ≡ isSized k count ⌝ }
 {
     let length = Length { k };
     if !length.is_legal() {
         return false;
     }
-    if Length::MOST_WORDS < count {
-        return false;
-    }
-    n == end_of(header, k, count)
+    count <= Length::MOST_WORDS
 }
 
 // A refused session.
@@ -172,26 +158,63 @@ fn refuse() -> Session
     }
 }
 
-// Reads bytes as a session: where its parts lie, or SESSION.
+// Reads the body that starts so, which more bytes may follow: where its parts lie, or SESSION.
+pub fn read_body(bytes: &[u8], start: usize, told: bool) -> Session
+    requires { ⌜ start ≤ lengthAt ⌝ }
+    ensures { λ r. ⌜ r ≡ bodyOf start told (now (bytes .entry)) ⌝ }
+{
+    if bytes.len() < facts_place(start) {
+        return refuse();
+    }
+    let k = parts::number_at(bytes, start, LENGTH_BYTES) as usize;
+    let count = parts::number_at(bytes, count_place(start), COUNT_BYTES) as usize;
+    if !is_sized(k, count) {
+        return refuse();
+    }
+    let files = files_place(start, told);
+    if bytes.len() < end_of(files, k, count) {
+        return refuse();
+    }
+    let byte = facts_byte(bytes, start, told);
+    if facts::ALL < byte {
+        return refuse();
+    }
+    placed(files, k, count, facts::facts_of(byte))
+}
+
+// The version.
+fn version_of(bytes: &[u8]) -> u64
+    requires { ⌜ lengthAt ≤ length (now bytes) ⌝ }
+    ensures { λ r. ⌜ r ≡ sessionVersion (now (bytes .entry)) ⌝ }
+{
+    parts::number_at(bytes, VERSION_AT, VERSION_BYTES)
+}
+
+// Whether the bytes start with the mark and one of the versions.
+fn is_headed(bytes: &[u8]) -> bool
+    requires { ⌜ lengthAt ≤ length (now bytes) ⌝ }
+    ensures { λ r. ⌜ r ≡ isHeaded (now (bytes .entry)) ⌝ }
+{
+    if !check::same(&bytes[..MARK_BYTES], &MARK) {
+        return false;
+    }
+    let version = version_of(bytes);
+    version == FIRST_VERSION || version == FACTS_VERSION
+}
+
+// Reads bytes as a session: mark and version, the body, and nothing more; where its parts lie, or SESSION.
 pub fn read_session(bytes: &[u8]) -> Session
     ensures { λ r. ⌜ r ≡ sessionOf (now (bytes .entry)) ⌝ }
 {
-    if bytes.len() < LEAST_HEADER {
+    if bytes.len() < LENGTH_AT {
         return refuse();
     }
     if !is_headed(bytes) {
         return refuse();
     }
-    let version = version_of(bytes);
-    let header = header_of(version);
-    let k = parts::number_at(bytes, LENGTH_AT, LENGTH_BYTES) as usize;
-    let count = parts::number_at(bytes, COUNT_AT, COUNT_BYTES) as usize;
-    if !is_sized(header, k, count, bytes.len()) {
+    let body = read_body(bytes, LENGTH_AT, version_of(bytes) == FACTS_VERSION);
+    if body.end != bytes.len() {
         return refuse();
     }
-    let byte = facts_byte(version, bytes);
-    if facts::ALL < byte {
-        return refuse();
-    }
-    placed(header, k, count, facts::facts_of(byte))
+    body
 }

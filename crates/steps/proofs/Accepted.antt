@@ -7,7 +7,7 @@ use mathlib.Core.Bool.{false}
 use mathlib.Core.List.{List, _++_}
 use lib.Dec.{eqb}
 use Rattle.machine.specs.Refusal.{Test, UNKNOWN, UNDEFINED, refused, first}
-use Rattle.machine.proofs.Tests.{first-none, refused-early, refused-later, none-refused, unless-refused}
+use Rattle.machine.proofs.Tests.{first-none, first-after, checked, none-refused, unless-refused}
 use Rattle.machine.proofs.Checks.{legal-most}
 use Rattle.registers.specs.declared.Kind.the-variants.{Vector}
 use Rattle.registers.specs.Register.{entryNumber}
@@ -96,14 +96,13 @@ module _ (c : Core) (program : List ℕ) (b : Buffers) where
 
   pub start-refused : (r : ℕ) → r ≡ startRefused (c .k) program b → (r ≡ 0 → ⊥) → leftWith r b ≡ stepped c program b
   unfolding startRefused
-  start-refused r e h =
-      step-stood r (refused-early (startTests (c .k) program b) tt (refused (lateTests (c .k) word (b .journal))) r e h ∙ sym step-tests) h
+  start-refused r e h = step-stood r (checked (startTests (c .k) program b) tt step-tests e .refuses h) h
 
   pub word-decides : (d : Decoded) → startRefused (c .k) program b ≡ 0 → word ≡ d → refused (stepTests c program b) ≡ refused (lateTests (c .k) d (b .journal))
   unfolding startRefused
   word-decides d e is =
       step-tests
-      ∙ refused-later (startTests (c .k) program b) tt (refused (lateTests (c .k) word (b .journal))) _ refl e
+      ∙ first-after (startTests (c .k) program b) (refused (lateTests (c .k) word (b .journal))) tt e
       ∙ ap (λ (w : Decoded). refused (lateTests (c .k) w (b .journal))) is
 
   -- what is left past an accepted word is what the step leaves

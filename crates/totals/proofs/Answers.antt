@@ -1,8 +1,8 @@
--- What the calls' answers are: each is determined by its contract and each refusal comes exactly in its case; a subtotal of no lanes is 0,
--- and that of all lanes is the sum in lane order.
+-- What the calls' answers are: each is determined by its contract and each refusal comes exactly in its case; a subtotal is the sum that is
+-- split down to single lanes, of no lanes 0, and of all lanes the sum in lane order.
 -- Assumes nothing.
 use Prim.Native.Nat.{ℕ, zero, suc, _/_}
-use mathlib.Core.Path.{_≡_, refl, _∙_, ap}
+use mathlib.Core.Path.{_≡_, refl, sym, _∙_, ap}
 use mathlib.Core.Logic.{_↔_}
 use mathlib.Core.Bool.{Bool, true}
 use mathlib.Core.List.{List}
@@ -12,12 +12,14 @@ use Rattle.machine.specs.Size.{vectorBytes}
 use Rattle.registers.specs.Register.{vectorOf, predicateOf}
 use Rattle.machine.specs.Refusal.{DONE, First, inOrder, answer}
 use Rattle.machine.specs.declared.Answer.{Answer}
-use Rattle.machine.proofs.Tests.{first-exactly, one-result, refused-later}
+use Rattle.machine.proofs.Tests.{first-exactly, first-after, one-result}
 use Rattle.lanes.specs.Lane.{widthOf}
 use Rattle.lanes.specs.Sum.{activeElement}
 use Rattle.sums.specs.Sums.{laneSum}
+use Rattle.sums.specs.Split.{splitSum}
 use Rattle.totals.specs.Calls.{panelTests, panelRefused, panelAnswer, subtotalTests, subtotalRefused, subtotalAnswer}
 use Rattle.sums.proofs.Ranges.{sum-none}
+use Rattle.sums.proofs.Split.{split-is-lane-order}
 
 -- with 0 as the value, an answer's value is 0
 zero-value : (n v : ℕ) → v ≡ 0 → answer n v .value ≡ 0
@@ -52,6 +54,14 @@ module _ (k : ℕ) (z p : List ℕ) (source predicate size : ℕ) where
         → r ≡ s
     subtotal-determined a b = one-result _ _ _
 
+    -- the range is split at its middle and each half summed the same way
+    pub subtotal-is-split : (a b : ℕ)
+        → subtotalAnswer k z p source predicate size signed a b
+        ≡ answer (subtotalRefused k z p source predicate size a b) (splitSum signed (widthOf size) a b (predicateOf k predicate p) (vectorOf k source z))
+    subtotal-is-split a b =
+        ap (answer (subtotalRefused k z p source predicate size a b))
+        (sym (split-is-lane-order signed (widthOf size) a b (predicateOf k predicate p) (vectorOf k source z)))
+
     -- a = b gives 0
     pub subtotal-of-none : (a : ℕ) → subtotalAnswer k z p source predicate size signed a a .value ≡ 0
     subtotal-of-none a =
@@ -69,5 +79,5 @@ module _ (k : ℕ) (z p : List ℕ) (source predicate size : ℕ) where
       where
         done : subtotalRefused k z p source predicate size 0 (vectorBytes k / widthOf size) ≡ DONE
         done =
-            refused-later (panelTests k z p source predicate size) tt _ _ refl h
+            first-after (panelTests k z p source predicate size) _ tt h
             ∙ rw (le-leb 0 (vectorBytes k / widthOf size) (omega arith), le-leb (vectorBytes k / widthOf size) (vectorBytes k / widthOf size) (omega arith))

@@ -12,7 +12,7 @@ use lib.ListN.{length}
 use borrow.Author.Tests.{lt-ltb, le-ltb}
 use Rattle.parts.specs.Part.{laid}
 use Rattle.machine.specs.Refusal.{DONE, OUT, RANGE, Test, First, inOrder, filesTests, refused}
-use Rattle.machine.proofs.Tests.{first-exactly, first-after, refused-early, kept, left}
+use Rattle.machine.proofs.Tests.{first-exactly, first-after, checked, kept, left}
 use Rattle.totals.specs.Calls.{inRange, panelRefused, panelAnswer}
 use Rattle.totals.specs.Written.{panelBytes, joined, panelWrittenTests, panelWrittenRefused, panelLaid, PanelWritten}
 
@@ -40,7 +40,7 @@ module _ (k : ℕ) (z p : List ℕ) (source predicate size : ℕ) (out : List �
   stood r e h = record { answered = e; bytes = kept _ r (panelLaid k z p source predicate size out) out e h }
 
   pub files-refuse : (r : ℕ) → r ≡ refused files → (r ≡ DONE → ⊥) → PanelWritten k z p source predicate size out r out
-  files-refuse r e h = stood r (refused-early files tt (cond (ltb (length out) panelBytes) OUT range) r e h) h
+  files-refuse r e h = stood r (checked files tt refl e .refuses h) h
 
   module _ (right : refused files ≡ DONE) where
     pub out-refuses : length out < panelBytes → PanelWritten k z p source predicate size out OUT out

@@ -7,6 +7,8 @@ ghost use Rattle.travel.specs.Travel.{countedFor, Gone, Countable, Made}
 use facts::Facts;
 use machine::refusal;
 
+mod held;
+
 // How many steps of each kind were accepted.
 pub struct Travelled {
     pub forward: usize,

@@ -10,7 +10,8 @@ use lib.Dec.{leb}
 use lib.ListN.{length, take}
 use lib.Seq.{length-take-le, take-all}
 use borrow.Author.Tests.{leb-true, leb-false}
-use Rattle.session.specs.Layout.{mostSession, noSession}
+use Rattle.session.specs.Body.{noSession}
+use Rattle.session.specs.Layout.{mostSession}
 use Rattle.session.proofs.Reading.{session-cut}
 use Rattle.lines.specs.Line.{sessionLine}
 use Rattle.walks.specs.Output.{outputOf}

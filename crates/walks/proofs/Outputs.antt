@@ -30,7 +30,8 @@ use Rattle.steps.specs.Calls.{stepped, Stepped}
 use Rattle.steps.proofs.Accepted.{step-accepted}
 use Rattle.travel.proofs.Undone.{step-room}
 use Rattle.session.specs.declared.Session.{Session}
-use Rattle.session.specs.Layout.{sessionOf, programPart}
+use Rattle.session.specs.Body.{programPart}
+use Rattle.session.specs.Layout.{sessionOf}
 use Rattle.lines.specs.Line.{mostLine, sessionLine, Written}
 use Rattle.lines.proofs.Lines.{written-put}
 use Rattle.walks.specs.Output.{printed, linesFrom, walkVersion, walkJournal, sessionBuffers, sessionCore, sessionLines, outputOf, lineRate, linesMost, mostOutput, outputTests, OutputWritten}

@@ -11,12 +11,12 @@ use lib.Dec.{eqb, leb}
 use lib.ListN.{length}
 use borrow.Author.Tests.{eq-eqb, ne-eqb, le-leb, lt-leb, leb-true, leb-false}
 use Rattle.machine.specs.Size.{isProgram, wordBytes, mostWords}
-use Rattle.machine.specs.Refusal.{DONE, END, UNKNOWN, UNDEFINED, FULL, programTests, refused, unlessRefused}
-use Rattle.machine.proofs.Tests.{refused-later}
+use Rattle.machine.specs.Refusal.{DONE, END, UNKNOWN, UNDEFINED, FULL, refused, unlessRefused}
+use Rattle.machine.proofs.Tests.{first-after}
 use Rattle.registers.specs.State.{Sized}
 use Rattle.words.specs.Decode.{numberOf, wordTests}
 use Rattle.cores.specs.Core.{decodedOn}
-use Rattle.programs.specs.Word.{wordAt, wordsOf, endTests}
+use Rattle.programs.specs.Word.{wordAt, wordsOf}
 use Rattle.meaning.proofs.Effects.{executed-sized}
 use Rattle.entries.specs.Layout.{layoutOf, mostJournal, positionOf, isFull}
 use Rattle.entries.specs.Formed.{Formed}
@@ -30,7 +30,8 @@ use Rattle.steps.specs.Calls.{wordNow, fieldsNow, fullTests, stepped}
 use Rattle.steps.proofs.Accepted.{step-number, step-accepted, step-refused}
 use Rattle.travel.proofs.Undone.{step-room}
 use Rattle.session.specs.declared.Session.{Session}
-use Rattle.session.specs.Layout.{sessionOf, programPart, Parts}
+use Rattle.session.specs.Body.{programPart, Parts}
+use Rattle.session.specs.Layout.{sessionOf}
 use Rattle.session.proofs.Reading.{session-parts}
 use Rattle.lines.specs.Line.{stepLine}
 use Rattle.walks.specs.Output.{printed, linesFrom, walkVersion, walkJournal, sessionBuffers, sessionCore, outputOf}
@@ -69,7 +70,7 @@ module _ (c : Core) (program : List ℕ) (position : ℕ) (b : Buffers) (at : St
   step-is =
       step-number c program b
       ∙ rw (at .files .legal, eq-eqb _ _ (at .files .vectorSize), eq-eqb _ _ (at .files .predicateSize), at .whole)
-      (refused-later (journalTests (c .k) (b .journal)) tt (cond (leb (wordsOf (length program)) (positionOf (b .journal))) END late) _ refl
+      (first-after (journalTests (c .k) (b .journal)) (cond (leb (wordsOf (length program)) (positionOf (b .journal))) END late) tt
       (formed-passes (c .k) (b .journal) (at .formed)))
       ∙ ap (λ (place : ℕ). cond (leb (wordsOf (length program)) place) END late) (at .place)
 

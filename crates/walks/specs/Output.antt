@@ -13,7 +13,8 @@ use Rattle.entries.specs.Layout.{firstVersion, mostJournal, entryBytes, capacit
 use Rattle.journal.specs.Left.{Core, coreOf, Buffers, buffersOf}
 use Rattle.steps.specs.Calls.{stepped, Stepped}
 use Rattle.session.specs.declared.Session.{Session}
-use Rattle.session.specs.Layout.{sessionOf, vectorPart, predicatePart, programPart}
+use Rattle.session.specs.Body.{vectorPart, predicatePart, programPart}
+use Rattle.session.specs.Layout.{sessionOf}
 use Rattle.lines.specs.Line.{mostLine, stepLine, sessionLine, lineRefused, Written}
 use Rattle.walks.specs.declared.Turn.{Turn}
 

@@ -15,6 +15,8 @@ ghost use Rattle.journal.specs.Left.{coreOf, buffersOf};
 ghost use Rattle.lines.specs.Line.{mostLine};
 ghost use Rattle.walks.specs.Output.{linesFrom, linesMost, walkJournal, sessionLines, OutputWritten, Turned, Lent, Given};
 
+mod held;
+
 // What a step answered, and the place after its line.
 pub struct Turn {
     pub number: u8,

@@ -111,12 +111,12 @@ pub append-spec : {M : Type 1} → statement M
 append-spec =
     tie.close
     (tie.spec
-    (λ c κs. search needs)
+    (λ c κs. search needs)  -- held-of-requires
     entry-at-requires
-    (λ c. search needs)
+    (λ c. search needs)  -- cast-journal
     slice-write-journal
     add-overwrite
-    (λ c κs. search needs)
+    (λ c κs. search needs)  -- register-requires
     overwrite-requires
     add-put-count
     put-count-requires

@@ -79,15 +79,15 @@ pub restore-spec : {M : Type 1} → statement M
 restore-spec =
     tie.close
     (tie.spec
-    (λ c κs. search needs)
-    (λ c. omega (arith, within c))
-    (λ c κs. search needs)
-    (λ c. omega (arith, within (c .before), c .vector-bytes .ensures))
-    (λ c. omega (arith, within (measured c .before)))
+    (λ c κs. search needs)  -- entry-at-requires
+    (λ c. omega (arith, within c))  -- add-old
+    (λ c κs. search needs)  -- vector-bytes-requires
+    (λ c. omega (arith, within (c .before), c .vector-bytes .ensures))  -- add-end
+    (λ c. omega (arith, within (measured c .before)))  -- shared-slice-read-write-register
     cast-write-register
-    (λ c. search needs)
-    (λ c. search needs)
-    (λ c. omega (arith, within (measured c .before), measured c .vector-bytes .ensures))
+    (λ c. search needs)  -- sub-write-register
+    (λ c. search needs)  -- part-write-register-start
+    (λ c. omega (arith, within (measured c .before), measured c .vector-bytes .ensures))  -- part-write-register-end
     write-register-requires
-    (λ c. search needs)
+    (λ c. search needs)  -- same-length
     returns)

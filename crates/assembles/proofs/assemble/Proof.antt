@@ -68,14 +68,14 @@ pub assemble-spec : {M : Type 1} → statement M
 assemble-spec =
     tie.close
     (tie.spec
-    (λ c κs. search needs)
-    (λ c κs. search needs)
-    (λ c. search needs)
-    (λ c. search needs)
-    (λ c κs. search needs)
+    (λ c κs. search needs)  -- read-fields-requires
+    (λ c κs. search needs)  -- encode-requires
+    (λ c. search needs)  -- cast-value
+    (λ c. search needs)  -- slice-aggregate-text
+    (λ c κs. search needs)  -- text-requires
     array-share-prefix-line
     slice-aggregate-same
-    (λ c κs. search needs)
+    (λ c κs. search needs)  -- same-requires
     returns
     returns-2
     returns-3)

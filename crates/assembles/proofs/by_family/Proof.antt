@@ -30,20 +30,20 @@ pub by-family-spec : {M : Type 1} → statement M
 by-family-spec =
     tie.close
     (tie.spec
-    (λ c. search needs)
-    (λ c. search needs)
-    (λ c κs. search needs)
-    (λ c. search needs)
-    (λ c κs. search needs)
-    (λ c. search needs)
-    (λ c κs. search needs)
-    (λ c. search needs)
-    (λ c. search needs)
-    (λ c. search needs)
-    (λ c κs. search needs)
-    (λ c. search needs)
-    (λ c. search needs)
-    (λ c κs. search needs)
+    (λ c. search needs)  -- enum-known-family
+    (λ c. search needs)  -- enum-told
+    (λ c κs. search needs)  -- fields-requires
+    (λ c. search needs)  -- enum-told-2
+    (λ c κs. search needs)  -- fields-requires-2
+    (λ c. search needs)  -- enum-told-3
+    (λ c κs. search needs)  -- fields-requires-3
+    (λ c. search needs)  -- enum-known-family-2
+    (λ c. search needs)  -- enum-told-4
+    (λ c. search needs)  -- add-fields
+    (λ c κs. search needs)  -- fields-requires-4
+    (λ c. search needs)  -- enum-told-5
+    (λ c. search needs)  -- add-fields-2
+    (λ c κs. search needs)  -- fields-requires-5
     returns
     returns-2
     returns-3

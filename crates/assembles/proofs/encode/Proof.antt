@@ -5,9 +5,8 @@ use mathlib.Core.Path.{_≡_, ap}
 use Prim.Native.Nat.{ℕ, _+_, _*_, _%_, _^_}
 use native.Mathlib.Omega.{arith}
 use Rattle.rows.specs.Digits.{wordDigits}
-use Rattle.rows.specs.Table.{rowValue}
+use Rattle.rows.specs.Table.{rowValue, lineValue}
 use Rattle.words.specs.Encode.{encoded}
-use Rattle.rows.specs.declared.Row.{Row}
 use Rattle.words.specs.declared.Fields.{Fields}
 use Rattle.assembles.specs.Reading.{limited}
 use Rattle.assembles.proofs.encode.Statement.{statement}
@@ -29,7 +28,7 @@ returns c =
     let row = one .before .before in
     ap (λ (w : ℕ). w % 2 ^ wordDigits)
     (encode-sum (row .before .args .f) _ _ _ _ _ _ _
-    (ap (λ (r : Row). r .2) (row .row-at .ensures))
+    (ap lineValue (row .row-at .ensures))
     (one .placed .ensures)
     (three .before .placed2 .ensures)
     (three .placed3 .ensures)
@@ -41,19 +40,19 @@ pub encode-spec : {M : Type 1} → statement M
 encode-spec =
     tie.close
     (tie.spec
-    (λ c κs. search needs)
-    (λ c. search needs)
-    (λ c κs. search needs)
-    (λ c κs. search needs)
-    (λ c κs. search needs)
-    (λ c κs. search needs)
-    (λ c κs. search needs)
-    (λ c κs. search needs)
-    (λ c. search needs)
-    (λ c. search needs)
-    (λ c. search needs)
-    (λ c. search needs)
-    (λ c. search needs)
-    (λ c. search needs)
-    (λ c. search needs)
+    (λ c κs. search needs)  -- row-at-requires
+    (λ c. search needs)  -- cast-value
+    (λ c κs. search needs)  -- placed-requires
+    (λ c κs. search needs)  -- placed-requires-2
+    (λ c κs. search needs)  -- placed-requires-3
+    (λ c κs. search needs)  -- placed-requires-4
+    (λ c κs. search needs)  -- placed-requires-5
+    (λ c κs. search needs)  -- placed-requires-6
+    (λ c. search needs)  -- add-sum
+    (λ c. search needs)  -- add-sum-2
+    (λ c. search needs)  -- add-sum-3
+    (λ c. search needs)  -- add-sum-4
+    (λ c. search needs)  -- add-sum-5
+    (λ c. search needs)  -- add-sum-6
+    (λ c. search needs)  -- cast-result
     returns)

@@ -64,15 +64,15 @@ pub read-fields-spec : {M : Type 1} → statement M
 read-fields-spec =
     tie.close
     (tie.spec
-    (λ c κs. search needs)
-    (λ c κs. search needs)
-    (λ c κs. search needs)
-    (λ c κs. search needs)
-    (λ c κs. search needs)
-    (λ c κs. search needs)
-    (λ c κs. search needs)
-    (λ c κs. search needs)
-    (λ c κs. search needs)
-    (λ c κs. search needs)
+    (λ c κs. search needs)  -- row-named-requires
+    (λ c κs. search needs)  -- past-space-requires
+    (λ c κs. search needs)  -- past-space-requires-2
+    (λ c κs. search needs)  -- past-space-requires-3
+    (λ c κs. search needs)  -- number-at-requires
+    (λ c κs. search needs)  -- number-at-requires-2
+    (λ c κs. search needs)  -- number-at-requires-3
+    (λ c κs. search needs)  -- size-in-requires
+    (λ c κs. search needs)  -- family-of-requires
+    (λ c κs. search needs)  -- q-in-requires
     by-family-requires
     returns)

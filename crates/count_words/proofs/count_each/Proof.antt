@@ -74,14 +74,14 @@ count-each-spec =
     Inv-loop
     μ-loop
     loop-holds
-    (λ c. search needs)
-    (λ c. search needs)
-    (λ c. search needs)
-    (λ c κs. search needs)
-    (λ c κs. search needs)
-    (λ c κs. search needs)
+    (λ c. search needs)  -- mul-word
+    (λ c. search needs)  -- add-word
+    (λ c. search needs)  -- cast-word
+    (λ c κs. search needs)  -- decode-requires
+    (λ c κs. search needs)  -- number-of-requires
+    (λ c κs. search needs)  -- one-if-requires
     add-count
-    (λ c. search needs)
-    (λ c. omega arith)
+    (λ c. search needs)  -- add-low
+    (λ c. omega arith)  -- loop-less
     loop-again
     returns)

@@ -106,14 +106,14 @@ are-named-spec =
     (tie.spec
     Inv-loop
     μ-loop
-    (λ c κs. search needs)
+    (λ c κs. search needs)  -- layout-in-requires
     loop-holds
-    (λ c κs. search needs)
+    (λ c κs. search needs)  -- slot-of-requires
     slot-at-requires
     shared-slice-read-if1
     cast-if1
     returns
-    (λ c. omega arith)
-    (λ c. omega arith)
+    (λ c. omega arith)  -- add-i
+    (λ c. omega arith)  -- loop-less
     loop-again
     returns-2)

@@ -108,14 +108,14 @@ is-journal-spec =
     tie.close
     (tie.spec
     version-of-requires
-    (λ c κs. search needs)
+    (λ c κs. search needs)  -- is-version-requires
     returns
-    (λ c κs. search needs)
+    (λ c κs. search needs)  -- has-heading-requires
     returns-2
-    (λ c κs. search needs)
+    (λ c κs. search needs)  -- held-of-requires
     returns-3
-    (λ c κs. search needs)
-    (λ c κs. search needs)
+    (λ c κs. search needs)  -- layout-in-requires
+    (λ c κs. search needs)  -- capacity-requires
     returns-4
     are-named-requires
     returns-5)

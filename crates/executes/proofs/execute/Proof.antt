@@ -83,14 +83,14 @@ pub execute-spec : {M : Type 1} → statement M
 execute-spec =
     tie.close
     (tie.spec
-    (λ c κs. search needs)
-    (λ c. search needs)
+    (λ c κs. search needs)  -- form-of-requires
+    (λ c. search needs)  -- enum-known-family
     low-bytes-requires
-    (λ c. search needs)
+    (λ c. search needs)  -- slice-aggregate-write-register
     write-register-requires
-    (λ c. search needs)
+    (λ c. search needs)  -- enum-known-family-2
     write-lanes-requires
-    (λ c. search needs)
+    (λ c. search needs)  -- same-length
     returns
-    (λ c. search needs)
-    (λ c. search needs))
+    (λ c. search needs)  -- same-length-2
+    (λ c. search needs))  -- returns-2

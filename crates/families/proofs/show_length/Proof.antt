@@ -18,13 +18,13 @@ show-length-spec =
     (tie.spec
     Inv-loop
     μ-loop
-    (λ c. search needs)
-    (λ c. search needs)
-    (λ c. search needs)
-    (λ c. search needs)
-    (λ c. search needs)
-    (λ c κs. search needs)
-    (λ c. search needs)
-    (λ c. search needs)
-    (λ c. search needs)
-    (λ c. search needs))
+    (λ c. search needs)  -- loop-holds
+    (λ c. search needs)  -- mul-show-step
+    (λ c. search needs)  -- sub-show-step
+    (λ c. search needs)  -- part-show-step-start
+    (λ c. search needs)  -- part-show-step-end
+    (λ c κs. search needs)  -- show-step-requires
+    (λ c. search needs)  -- add-at
+    (λ c. search needs)  -- loop-less
+    (λ c. search needs)  -- loop-again
+    (λ c. search needs))  -- returns

@@ -8,7 +8,7 @@ use denote.Ref.{now}
 use lib.ListN.{length}
 use Rattle.machine.specs.Refusal.{lengthTests, refused}
 use Rattle.machine.proofs.Checks.{legal-most}
-use Rattle.machine.proofs.Tests.{refused-early, refused-later}
+use Rattle.machine.proofs.Tests.{Checked, checked}
 use Rattle.entries.specs.Layout.{firstVersion, freshJournal}
 use Rattle.entries.specs.Tests.{roomTests}
 use Rattle.journal.specs.Left.{leftWith}
@@ -39,25 +39,20 @@ length-passed c = c .before
 abbrev written : tie.After-slice-known2 → tie.After-put-fresh
 written c = c .before .before
 
--- past the length the size decides
-decides : (c : tie.Else1) →
-    let a = start (c .before) .args in refused (freshTests (a .k) firstVersion (now (a .journal))) ≡ refused (roomTests firstVersion (length (now (a .journal))))
-decides c =
-    let a = start (c .before) .args in
-    refused-later (lengthTests (a .k)) tt (refused (roomTests firstVersion (length (now (a .journal))))) _ (c .before .check-length .ensures) (c .if1 .left)
+-- the length's refusal is the call's, and past it the size's is
+sized : (c : tie.After-check-length) → let a = start c .args in
+    Checked (c .check-length .result) (refused (freshTests (a .k) firstVersion (now (a .journal)))) (refused (roomTests firstVersion (length (now (a .journal)))))
+sized c = checked (lengthTests (start c .args .k)) tt refl (c .check-length .ensures)
+
+answers : (c : tie.After-check-room-for) → let a = start (c .before .before) .args in
+    c .check-room-for .result ≡ refused (freshTests (a .k) firstVersion (now (a .journal)))
+answers c = c .check-room-for .ensures ∙ sym (sized (c .before .before) .passes (c .before .if1 .left))
 
 returns : tie.Need-returns
-returns c =
-    let a = start (c .before) .args in
-    stood (a .k) _ (now (a .journal))
-    (refused-early (lengthTests (a .k)) tt (refused (roomTests firstVersion (length (now (a .journal))))) _ (c .before .check-length .ensures) (c .if1 .taken))
-    (c .if1 .taken)
+returns c = let a = start (c .before) .args in stood (a .k) _ (now (a .journal)) (sized (c .before) .refuses (c .if1 .taken)) (c .if1 .taken)
 
 returns-2 : tie.Need-returns-2
-returns-2 c =
-    let p = length-passed (c .before) in
-    let a = start (p .before) .args in
-    stood (a .k) _ (now (a .journal)) (c .before .check-room-for .ensures ∙ sym (decides p)) (c .if2 .taken)
+returns-2 c = let a = start (length-passed (c .before) .before) .args in stood (a .k) _ (now (a .journal)) (answers (c .before)) (c .if2 .taken)
 
 put-fresh-requires : tie.Need-put-fresh-requires
 put-fresh-requires c κs =
@@ -71,10 +66,8 @@ put-fresh-requires c κs =
 returns-3 : tie.Need-returns-3
 returns-3 c =
     let passed = written c .before .before in
-    let p = length-passed (passed .before) in
-    let a = start (p .before) .args in
-    let e : refused (freshTests (a .k) firstVersion (now (a .journal))) ≡ 0 = decides p ∙ sym (passed .before .check-room-for .ensures) ∙ passed .if2 .left in
-    made (a .k) (now (a .journal)) _ e (written c .put-fresh .ensures)
+    let a = start (length-passed (passed .before) .before) .args in
+    made (a .k) (now (a .journal)) _ (sym (answers (passed .before)) ∙ passed .if2 .left) (written c .put-fresh .ensures)
 
 pub fresh-spec : {M : Type 1} → statement M
 fresh-spec =

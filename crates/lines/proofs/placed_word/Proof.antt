@@ -1,15 +1,22 @@
 -- `placed_word` meets its contract: each check answers its own refusal, and the tests before it did not hold.
 -- Assumes nothing.
-use mathlib.Core.Path.{_≡_, sym, _∙_, ap}
+use Prim.Native.Nat.{ℕ}
+use mathlib.Core.Path.{refl, sym, _∙_, ap}
+use mathlib.Core.List.{List, [], _∷_, _++_}
+use native.Mathlib.Omega.{arith}
 use denote.Ref.{now}
+use lib.Dec.{ltb}
 use lib.ListN.{length}
 use borrow.Author.Needs.{needs}
-use Rattle.machine.specs.Refusal.{refused, filesTests}
+use borrow.Author.Tests.{lt-ltb, le-ltb}
+use Rattle.machine.specs.Refusal.{OUT, Test, outTest, refused, filesTests}
+use Rattle.machine.proofs.Tests.{Checked, checked}
 use Rattle.digits.specs.Digits.{widthWithin, decimalWidth}
 use Rattle.registers.specs.State.{state}
 use Rattle.programs.specs.declared.Next.{Next}
-use Rattle.programs.specs.Word.{nextRefused}
-use Rattle.lines.proofs.Placed.{by-files, by-place, by-out, by-none}
+use Rattle.programs.specs.Word.{wordAt, placeTests}
+use Rattle.programs.proofs.Words.{none-found, found-as}
+use Rattle.lines.specs.Line.{mostLine, placedTests}
 use Rattle.lines.proofs.placed_word.Statement.{statement}
 use Rattle.lines.proofs.placed_word.Tie as tie
 
@@ -17,47 +24,50 @@ use Rattle.lines.proofs.placed_word.Tie as tie
 abbrev start : tie.After-check-files → tie.Start
 start c = c .before .before .before .before
 
-abbrev first : tie.After-struct-known → tie.Start
-first c = start (c .before .before .before)
+abbrev first : tie.After-next-word → tie.Start
+first c = start (c .before .before)
 
--- the files are right where the place is
-abbrev filed : tie.Else2 → tie.Else1
-filed c = c .before .before .before
+-- the word there, the number that is answered, and the last test
+abbrev word : tie.Start → ℕ
+word s = wordAt (now (s .args .program)) (s .args .position)
 
--- past the first test the files are right, and past the second the place is
-right : (c : tie.Else1) → let a = start (c .before) .args in refused (filesTests (a .k) (length (now (a .z))) (length (now (a .p)))) ≡ 0
-right c = sym (c .before .check-files .ensures) ∙ c .if1 .left
+abbrev asked : tie.Start → ℕ
+asked s = let a = s .args in refused (placedTests (a .k) (state (now (a .z)) (now (a .p))) (now (a .program)) (a .position) (a .n))
 
-inside : (c : tie.Else2) → let a = first (c .before) .args in nextRefused (now (a .program)) (a .position) ≡ 0
-inside c = sym (ap (λ (n : Next). n .number) (c .before .before .next-word .ensures)) ∙ c .if2 .left
+abbrev room : tie.Start → List Test
+room s = outTest (ltb (s .args .n) mostLine) ∷ []
+
+-- each check's refusal is the call's, and past it the later tests decide
+files : (c : tie.After-check-files) → let s = start c in
+    Checked (c .check-files .result) (asked s) (refused (placeTests (length (now (s .args .program))) (s .args .position) ++ room s))
+files c = let a = start c .args in checked (filesTests (a .k) (length (now (a .z))) (length (now (a .p)))) tt refl (c .check-files .ensures)
+
+place : (c : tie.After-next-word) → Checked (c .next-word .result .number) (asked (first c)) (refused (room (first c)))
+place c =
+    let a = first c .args in
+    checked (placeTests (length (now (a .program))) (a .position)) tt (files (c .before .before) .passes (c .before .if1 .left))
+    (ap (λ (n : Next). n .number) (c .next-word .ensures))
 
 returns : tie.Need-returns
-returns c =
-    let a = start (c .before) .args in
-    let check = c .before .check-files in
-    by-files (a .k) (state (now (a .z)) (now (a .p))) (now (a .program)) (a .position) (a .n) (check .result) (check .ensures) (c .if1 .taken)
+returns c = let s = start (c .before) in none-found _ _ (word s) (s .args .position) (files (c .before) .refuses (c .if1 .taken)) (c .if1 .taken)
 
 returns-2 : tie.Need-returns-2
 returns-2 c =
-    let a = first (c .before) .args in
-    let next = c .before .before .next-word in
-    by-place (a .k) (state (now (a .z)) (now (a .p))) (now (a .program)) (a .position) (a .n)
-    (right (c .before .before .before)) (next .result) (next .ensures) (c .if2 .taken)
+    let n = c .before .before in
+    found-as _ _ _ (word (first n)) (first n .args .position) (n .next-word .ensures) (place n .refuses (c .if2 .taken))
 
 returns-3 : tie.Need-returns-3
 unfolding widthWithin decimalWidth
 returns-3 c =
-    let a = first (c .before .before) .args in
-    by-out (a .k) (state (now (a .z)) (now (a .p))) (now (a .program)) (a .position) (a .n)
-    (right (filed (c .before))) (inside (c .before)) (c .if3 .taken)
+    let n = c .before .before .before in
+    none-found OUT _ (word (first n)) (first n .args .position) (sym (place n .passes (c .before .if2 .left) ∙ rw (lt-ltb _ _ (c .if3 .taken)))) (λ e. omega arith)
 
 returns-4 : tie.Need-returns-4
 unfolding widthWithin decimalWidth
 returns-4 c =
-    let a = first (c .before .before) .args in
-    let next = c .before .before .before .next-word in
-    by-none (a .k) (state (now (a .z)) (now (a .p))) (now (a .program)) (a .position) (a .n)
-    (right (filed (c .before))) (next .result) (next .ensures) (c .before .if2 .left) (c .if3 .left)
+    let n = c .before .before .before in
+    let passed = c .before .if2 .left in
+    found-as _ _ _ (word (first n)) (first n .args .position) (n .next-word .ensures) (passed ∙ sym (place n .passes passed ∙ rw (le-ltb _ _ (c .if3 .left))))
 
 pub placed-word-spec : {M : Type 1} → statement M
 placed-word-spec =

@@ -89,7 +89,8 @@ returns c =
     let s = start (c .before .before .before) in
     let found = c .before .before .before .placed-word in
     written-refused _ _ _ (c .refuse .result) (found .result .number) (c .refuse .ensures)
-    (early (s .args .k) (files s) (now (s .args .program)) (s .args .position) (room s) (s .args .facts) (s .args .number) _ (ap (λ (n : Next). n .number) (found .ensures)) (c .before .if1 .taken))
+    (early (s .args .k) (files s) (now (s .args .program)) (s .args .position) (room s) (s .args .facts) (s .args .number) _
+    (ap (λ (n : Next). n .number) (found .ensures)) (c .before .if1 .taken))
     (c .before .if1 .taken)
 
 put-refused-requires : tie.Need-put-refused-requires
@@ -165,24 +166,24 @@ pub write-line-spec : {M : Type 1} → statement M
 write-line-spec =
     tie.close
     (tie.spec
-    (λ c κs. search needs)
-    (λ c κs. search needs)
+    (λ c κs. search needs)  -- placed-word-requires
+    (λ c κs. search needs)  -- refuse-requires
     returns
-    (λ c. search needs)
+    (λ c. search needs)  -- cast-if2
     put-refused-requires
-    (λ c κs. search needs)
-    (λ c. search needs)
+    (λ c κs. search needs)  -- done-requires
+    (λ c. search needs)  -- same-length
     returns-2
-    (λ c κs. search needs)
-    (λ c. search needs)
-    (λ c κs. search needs)
-    (λ c. search needs)
-    (λ c κs. search needs)
-    (λ c. search needs)
-    (λ c κs. destination c)
+    (λ c κs. search needs)  -- decode-requires
+    (λ c. search needs)  -- enum-told
+    (λ c κs. search needs)  -- refuse-requires-2
+    (λ c. search needs)  -- enum-told-2
+    (λ c κs. search needs)  -- refuse-requires-3
+    (λ c. search needs)  -- enum-known-fields
+    (λ c κs. destination c)  -- register-requires
     put-accepted-requires
-    (λ c κs. search needs)
+    (λ c κs. search needs)  -- done-requires-2
     returns-3
     returns-4
-    (λ c. search needs)
+    (λ c. search needs)  -- same-length-2
     returns-5)

@@ -11,5 +11,5 @@ ln-register-place-spec =
     (tie.spec
     (λ c κs. search needs)
     (λ c κs. search needs)
-    (λ c. rw (eq-eqb _ _ (c .before .if1 .taken)) (c .place-of .ensures))
-    (λ c. rw (ne-eqb _ _ (c .before .if1 .left)) (c .place-of2 .ensures)))
+    (λ c. rw (eq-eqb _ _ (c .before .if1 .taken), c .place-of .ensures))
+    (λ c. rw (ne-eqb _ _ (c .before .if1 .left), c .place-of2 .ensures)))

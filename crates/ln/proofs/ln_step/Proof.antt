@@ -5,6 +5,7 @@ use mathlib.Core.List.{List}
 use Prim.Native.Nat.{ℕ}
 use denote.Ref.{now}
 use borrow.Author.Needs.{needs}
+use Rattle.journal.proofs.Left.{number-left}
 use Rattle.facts.specs.declared.Facts.{Facts}
 use Rattle.facts.specs.Facts.{factsOf}
 use Rattle.registers.specs.State.{state}
@@ -32,6 +33,7 @@ returns c =
     let a = known t .before .before .before .before .before .args in
     let made : Stepped (coreOf (a .k) (factsOf (a .facts))) (now (a .program)) (buffersOf (state (now (a .z)) (now (a .p))) (now (a .journal))) (t .step .result)
     (buffersOf (state (t .step .last .1 .1 .0) (now (a .p))) (t .step .last .1 .1 .1 .1 .1 .0)) = same-core _ _ _ _ _ _ _ (known t .facts-of .ensures) (t .step .ensures) in
+    let number = number-left (made .leaves) in
     search needs
 
 pub ln-step-spec : {M : Type 1} → statement M

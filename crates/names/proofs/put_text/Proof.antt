@@ -1,137 +1,114 @@
 -- `put_text` meets its contract: the name, the destination and the further operands, one after the other; the output has room for each.
 -- Assumes nothing.
 use borrow.Author.Needs.{needs}
-use Prim.Native.Nat.{_<_}
+use Prim.Native.Nat.{ℕ, _≤_, _<_}
+use mathlib.Core.Path.{refl, sym, ap}
+use mathlib.Core.List.{List, [], _++_}
+use denote.Ref.{now}
+use lib.ListN.{length}
 use Rattle.machine.specs.Size.{sizes}
 use Rattle.rows.specs.Table.{familyOf}
+use Rattle.rows.specs.declared.Form.{Form}
+use Rattle.words.specs.Field.{registerDigits}
+use Rattle.words.specs.declared.Fields.{Fields}
 use Rattle.words.proofs.Decoding.{q-below}
-use Rattle.digits.proofs.Puts.{put-then, put-length, room-rest}
+use Rattle.digits.specs.Put.{Put}
+use Rattle.digits.proofs.Puts.{Begun, begun, begun-room, begun-then, begun-all, put-length}
+use Rattle.operands.specs.declared.Operand.{Operand}
 use Rattle.operands.specs.Operands.{operandText, further}
-use Rattle.names.proofs.Pieces.{text-written, room-one, room-two, room-three, room-four}
+use Rattle.names.specs.Text.{following, textOf}
+use Rattle.names.proofs.Pieces.{others, sources, seconds, text-form, text-fits, following-where}
 use Rattle.names.proofs.put_text.Statement.{statement}
 use Rattle.names.proofs.put_text.Tie as tie
 
--- the places: the start, the family, and where the name, the destination, the governing predicate and the source are written
+-- where the name, the destination, the governing predicate and the source are written
+abbrev name : tie.After-destination → tie.After-put-name
+name c = c .before .before .before .before
+
+abbrev first : tie.After-governing → tie.After-put-operand
+first c = c .before .before .before .before .before
+
+abbrev second : tie.After-source → tie.After-put-further
+second c = c .before .before .before .before
+
+abbrev third : tie.After-source2 → tie.After-put-further2
+third c = c .before .before .before .before .before
+
+-- where the form is known, from before each of them
+abbrev formed : tie.After-destination → tie.After-form-of
+formed c = name c .before .before
+
+abbrev from-first : tie.After-governing → tie.After-form-of
+from-first c = formed (first c .before)
+
+abbrev from-second : tie.After-source → tie.After-form-of
+from-second c = from-first (second c .before)
+
+abbrev from-third : tie.After-source2 → tie.After-form-of
+from-third c = from-second (third c .before)
+
 abbrev start : tie.After-form-of → tie.Start
 start c = c .before .before
 
-abbrev family : tie.After-put-name → tie.After-form-of
-family c = c .before .before
+-- some of the operands that follow, and a text of which this piece and these operands are left
+abbrev of-form : tie.After-form-of → (Form → Fields → List Operand) → List Operand
+of-form c operands = operands (c .form-of .result) (start c .args .f)
 
-abbrev name : tie.After-put-operand-arg → tie.After-put-name
-name c = c .before .before .before
+abbrev Left : tie.After-form-of → List ℕ → List Operand → List ℕ → ℕ → Type 0
+Left c piece rest new at = Begun (now (start c .args .out)) (textOf (start c .args .f)) piece (following rest) new at
 
-abbrev first : tie.After-put-further-arg → tie.After-put-operand
-first c = c .before .before .before
+-- the fields are in range, and the output has room for the text
+in-range : (c : tie.After-form-of) → let f = start c .args .f in (f .size < sizes) × (f .q < 2)
+in-range c = let r = start c .pre .1 in (r .size, q-below (familyOf (start c .args .f .row)) (r .q))
 
-abbrev second : tie.After-put-further-arg2 → tie.After-put-further
-second c = c .before .before .before
+fits : (c : tie.After-form-of) → length (textOf (start c .args .f)) ≤ length (now (start c .args .out))
+fits c = text-fits (start c .args .f) (start c .pre .1) _ (start c .pre .0)
 
-abbrev third : tie.After-put-further-arg3 → tie.After-put-further2
-third c = c .before .before .before
+-- before each operand, it and those after it are left
+to-first : (c : tie.After-destination) → let at = name c .put-name in
+    Left (formed c) (operandText (c .destination .result)) (of-form (formed c) others) (at .last .0) (at .result)
+to-first c =
+    let s = formed c in
+    begun-then (begun (text-form _ (start s .args .f) (s .form-of .ensures))) (name c .put-name .ensures)
+    (ap (λ (o : Operand). operandText o ++ following (of-form s others)) (sym (c .destination .ensures)))
 
--- the fields are in range
-in-range : (c : tie.After-put-name) → (start (family c) .args .f .size < sizes) × (start (family c) .args .f .q < 2)
-in-range c = let r = start (family c) .pre .1 in (r .size, q-below (familyOf (start (family c) .args .f .row)) (r .q))
+to-second : (c : tie.After-governing) → let at = first c .put-operand in
+    Left (from-first c) (further (c .before .governing-digits .result) (c .governing .result)) (of-form (from-first c) sources) (at .last .0) (at .result)
+to-second c =
+    begun-then (to-first (first c .before)) (first c .put-operand .ensures)
+    (following-where _ (c .before .governing-digits .ensures .is) (c .governing .ensures))
 
-destination-requires : tie.Need-destination-requires
-destination-requires c κs = in-range (name c)
+to-third : (c : tie.After-source) → let at = second c .put-further in
+    Left (from-second c) (further registerDigits (c .source .result)) (of-form (from-second c) seconds) (at .last .0) (at .result)
+to-third c =
+    begun-then (to-second (second c .before)) (second c .put-further .ensures)
+    (following-where {digits = registerDigits} (of-form (from-second c) seconds) refl (c .source .ensures))
 
-put-operand-requires : tie.Need-put-operand-requires
-put-operand-requires c κs =
-    let at = name (c .before) in
-    let fam = family at in
-    room-rest (operandText (c .destination .result)) (at .put-name .ensures)
-    (room-one (start fam .args .f) _ (fam .form-of .ensures) _ (c .destination .ensures) (start fam .pre .1) _ (start fam .pre .0))
+to-fourth : (c : tie.After-source2) → let at = third c .put-further2 in
+    Left (from-third c) (further (c .before .second-digits .result) (c .source2 .result)) [] (at .last .0) (at .result)
+to-fourth c =
+    begun-then (to-third (third c .before)) (third c .put-further2 .ensures)
+    (following-where [] (c .before .second-digits .ensures .is) (c .source2 .ensures))
 
-put-further-requires : tie.Need-put-further-requires
-put-further-requires c κs =
-    let digits = c .before in
-    let dest = first (digits .before) .before in
-    let fam = family (name (dest .before)) in
-    room-rest (further (digits .governing-digits .result) (c .governing .result))
-    (put-then (name (dest .before) .put-name .ensures) (first (digits .before) .put-operand .ensures))
-    (room-two (start fam .args .f) _ (fam .form-of .ensures) _ (dest .destination .ensures) (start fam .pre .1) _ (start fam .pre .0)
-    _ _ (digits .governing-digits .ensures .is) (c .governing .ensures))
-
-source-requires : tie.Need-source-requires
-source-requires c κs = in-range (name (first (second c .before .before .before) .before .before))
-
-put-further-requires-2 : tie.Need-put-further-requires-2
-put-further-requires-2 c κs =
-    let gov = second (c .before) .before in
-    let digits = gov .before in
-    let dest = first (digits .before) .before in
-    let fam = family (name (dest .before)) in
-    room-rest (further 5 (c .source .result))
-    (put-then (put-then (name (dest .before) .put-name .ensures) (first (digits .before) .put-operand .ensures)) (second (c .before) .put-further .ensures))
-    (room-three (start fam .args .f) _ (fam .form-of .ensures) _ (dest .destination .ensures) (start fam .pre .1) _ (start fam .pre .0)
-    _ _ _ (digits .governing-digits .ensures .is) (gov .governing .ensures) (c .source .ensures))
-
-source-requires-2 : tie.Need-source-requires-2
-source-requires-2 c κs = let gov = second (third (c .before) .before .before) .before in in-range (name (first (gov .before .before) .before .before))
-
-put-further-requires-3 : tie.Need-put-further-requires-3
-put-further-requires-3 c κs =
-    let last = c .before in
-    let src = third (last .before) .before in
-    let gov = second (src .before) .before in
-    let digits = gov .before in
-    let dest = first (digits .before) .before in
-    let fam = family (name (dest .before)) in
-    room-rest (further (last .second-digits .result) (c .source2 .result))
-    (put-then
-    (put-then (put-then (name (dest .before) .put-name .ensures) (first (digits .before) .put-operand .ensures)) (second (src .before) .put-further .ensures))
-    (third (last .before) .put-further2 .ensures))
-    (room-four (start fam .args .f) _ (fam .form-of .ensures) _ (dest .destination .ensures) (start fam .pre .1) _ (start fam .pre .0)
-    _ _ _ _ _ (digits .governing-digits .ensures .is) (gov .governing .ensures) (src .source .ensures) (last .second-digits .ensures .is) (c .source2 .ensures))
-
-same-length : tie.Need-same-length
-same-length c =
-    let end = c .before .before in
-    let last = end .before .before in
-    let src = third (last .before) .before in
-    let digits = second (src .before) .before .before in
-    let dest = first (digits .before) .before in
-    put-length
-    (put-then
-    (put-then
-    (put-then (put-then (name (dest .before) .put-name .ensures) (first (digits .before) .put-operand .ensures)) (second (src .before) .put-further .ensures))
-    (third (last .before) .put-further2 .ensures))
-    (end .put-further3 .ensures))
-
-returns : tie.Need-returns
-returns c =
-    let end = c .before .before in
-    let last = end .before .before in
-    let src = third (last .before) .before in
-    let gov = second (src .before) .before in
-    let digits = gov .before in
-    let dest = first (digits .before) .before in
-    let fam = family (name (dest .before)) in
-    rw (text-written (start fam .args .f) _ (fam .form-of .ensures) _ (dest .destination .ensures)
-    _ _ _ _ _ (digits .governing-digits .ensures .is) (gov .governing .ensures) (src .source .ensures) (last .second-digits .ensures .is) (end .before .source2 .ensures))
-    (put-then
-    (put-then
-    (put-then (put-then (name (dest .before) .put-name .ensures) (first (digits .before) .put-operand .ensures)) (second (src .before) .put-further .ensures))
-    (third (last .before) .put-further2 .ensures))
-    (end .put-further3 .ensures))
+whole : (c : tie.After-put-further3) → let a = start (from-third (c .before)) .args in
+    Put (now (a .out)) 0 (textOf (a .f)) (c .put-further3 .last .0) (c .put-further3 .result)
+whole c = begun-all (to-fourth (c .before)) (c .put-further3 .ensures) refl
 
 pub put-text-spec : {M : Type 1} → statement M
 put-text-spec =
     tie.close
     (tie.spec
-    (λ c κs. search needs)
-    (λ c κs. search needs)
-    destination-requires
-    put-operand-requires
-    (λ c κs. search needs)
-    (λ c κs. search needs)
-    put-further-requires
-    source-requires
-    put-further-requires-2
-    (λ c κs. search needs)
-    source-requires-2
-    put-further-requires-3
-    same-length
-    returns)
+    (λ c κs. search needs)  -- form-of-requires
+    (λ c κs. search needs)  -- put-name-requires
+    (λ c κs. in-range (c .before .before .before .before .before))  -- destination-requires
+    (λ c κs. begun-room (to-first c) (fits (formed c)))  -- put-operand-requires
+    (λ c κs. search needs)  -- governing-digits-requires
+    (λ c κs. search needs)  -- governing-requires
+    (λ c κs. begun-room (to-second c) (fits (from-first c)))  -- put-further-requires
+    (λ c κs. in-range (from-first (c .before .before .before .before)))  -- source-requires
+    (λ c κs. begun-room (to-third c) (fits (from-second c)))  -- put-further-requires-2
+    (λ c κs. search needs)  -- second-digits-requires
+    (λ c κs. in-range (from-second (c .before .before .before .before .before)))  -- source-requires-2
+    (λ c κs. begun-room (to-fourth c) (fits (from-third c)))  -- put-further-requires-3
+    (λ c. put-length (whole (c .before .before)))  -- same-length
+    (λ c. whole (c .before .before)))  -- returns

@@ -57,16 +57,16 @@ pub text-spec : {M : Type 1} → statement M
 text-spec =
     tie.close
     (tie.spec
-    (λ c κs. search needs)
+    (λ c κs. search needs)  -- refuse-requires
     returns
-    (λ c κs. search needs)
-    (λ c. search needs)
-    (λ c κs. search needs)
-    (λ c. search needs)
-    (λ c κs. search needs)
-    (λ c. search needs)
+    (λ c κs. search needs)  -- decode-requires
+    (λ c. search needs)  -- enum-told
+    (λ c κs. search needs)  -- refuse-requires-2
+    (λ c. search needs)  -- enum-told-2
+    (λ c κs. search needs)  -- refuse-requires-3
+    (λ c. search needs)  -- enum-known-fields
     put-text-requires
     returns-2
     returns-3
-    (λ c. search needs)
+    (λ c. search needs)  -- same-length
     returns-4)

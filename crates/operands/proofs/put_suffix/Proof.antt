@@ -36,20 +36,20 @@ pub put-suffix-spec : {M : Type 1} → statement M
 put-suffix-spec =
     tie.close
     (tie.spec
-    (λ c. search needs)
-    (λ c. search needs)
-    (λ c κs. search needs)
-    (λ c. search needs)
+    (λ c. search needs)  -- enum-told
+    (λ c. search needs)  -- enum-known-suffix
+    (λ c κs. search needs)  -- letter-of-requires
+    (λ c. search needs)  -- slice-aggregate-put-bytes
     put-bytes-requires
-    (λ c. search needs)
+    (λ c. search needs)  -- enum-known-suffix-2
     put-lanes-requires
-    (λ c. search needs)
-    (λ c. search needs)
+    (λ c. search needs)  -- enum-told-2
+    (λ c. search needs)  -- slice-aggregate-put-bytes-2
     put-bytes-requires-2
     returns
-    (λ c. search needs)
+    (λ c. search needs)  -- same-length
     returns-2
-    (λ c. search needs)
+    (λ c. search needs)  -- same-length-2
     returns-3
-    (λ c. search needs)
+    (λ c. search needs)  -- same-length-3
     returns-4)

@@ -106,5 +106,20 @@ returns-3 c =
 pub register-spec : {M : Type 1} → statement M
 register-spec =
     tie.close
-    (tie.spec (λ c κs. search needs) (λ c. search needs) returns register-at-requires register-bytes-requires add-end
-    (λ c. search needs) (λ c. search needs) (λ c. search needs) part-result-end (λ c. search needs) (λ c. search needs) (λ c. search needs) part-result-end-2 returns-2 returns-3)
+    (tie.spec
+    (λ c κs. search needs)  -- register-refusal-requires
+    (λ c. search needs)  -- slice-aggregate-result
+    returns
+    register-at-requires
+    register-bytes-requires
+    add-end
+    (λ c. search needs)  -- enum-told
+    (λ c. search needs)  -- sub-result
+    (λ c. search needs)  -- part-result-start
+    part-result-end
+    (λ c. search needs)  -- enum-told-2
+    (λ c. search needs)  -- sub-result-2
+    (λ c. search needs)  -- part-result-start-2
+    part-result-end-2
+    returns-2
+    returns-3)

@@ -21,27 +21,27 @@ walk-words-spec =
     (tie.spec
     Inv-loop
     μ-loop
-    (λ c κs. search needs)
-    (λ c. omega arith)
-    (λ c. omega arith)
-    (λ c. omega arith)
-    (λ c. search needs)
-    (λ c. omega arith)
-    (λ c. omega arith)
-    (λ c. omega arith)
-    (λ c. omega arith)
-    (λ c. omega arith)
-    (λ c κs. search needs)
-    (λ c. omega arith)
-    (λ c. omega arith)
-    (λ c. search needs)
-    (λ c κs. search needs)
-    (λ c. omega arith)
-    (λ c. omega arith)
-    (λ c. search needs)
-    (λ c. omega arith)
-    (λ c. omega arith)
-    (λ c. omega arith)
-    (λ c. search needs)
-    (λ c. omega arith)
-    (λ c. omega arith))
+    (λ c κs. search needs)  -- vector-bytes-requires
+    (λ c. omega arith)  -- add-bytes
+    (λ c. omega arith)  -- loop-holds
+    (λ c. omega arith)  -- add-end
+    (λ c. search needs)  -- same-length
+    (λ c. omega arith)  -- same-length-2
+    (λ c. omega arith)  -- returns
+    (λ c. omega arith)  -- same-length-3
+    (λ c. omega arith)  -- same-length-4
+    (λ c. omega arith)  -- returns-2
+    (λ c κs. search needs)  -- word-at-requires
+    (λ c. omega arith)  -- sub-walk-word
+    (λ c. omega arith)  -- part-walk-word-start
+    (λ c. search needs)  -- part-walk-word-end
+    (λ c κs. search needs)  -- walk-word-requires
+    (λ c. omega arith)  -- same-length-5
+    (λ c. omega arith)  -- same-length-6
+    (λ c. search needs)  -- returns-3
+    (λ c. omega arith)  -- add-i
+    (λ c. omega arith)  -- loop-less
+    (λ c. omega arith)  -- loop-again
+    (λ c. search needs)  -- same-length-7
+    (λ c. omega arith)  -- same-length-8
+    (λ c. omega arith))  -- returns-4

@@ -96,14 +96,14 @@ pub low-bytes-spec : {M : Type 1} → statement M
 low-bytes-spec =
     tie.close
     (tie.spec
-    (λ c κs. search needs)
+    (λ c κs. search needs)  -- width-of-requires
     register-requires
     register-requires-2
-    (λ c. search needs)
+    (λ c. search needs)  -- enum-told
     reduction-low-requires
-    (λ c. search needs)
+    (λ c. search needs)  -- enum-told-2
     segment-sums-requires
-    (λ c. search needs)
+    (λ c. search needs)  -- enum-told-3
     long-low-requires
     returns
     returns-2

@@ -53,13 +53,13 @@ row-at-spec =
     (tie.spec
     Inv-loop
     μ-loop
-    (λ c κs. search needs)
+    (λ c κs. search needs)  -- table-requires
     loop-holds
-    (λ c. omega arith)
-    (λ c. search needs)
-    (λ c. omega arith)
-    (λ c. omega arith)
+    (λ c. omega arith)  -- sub-j
+    (λ c. search needs)  -- mul-row
+    (λ c. omega arith)  -- array-copy-out-row
+    (λ c. omega arith)  -- loop-less
     loop-again
-    (λ c. omega arith)
+    (λ c. omega arith)  -- loop-less-2
     loop-again-2
     returns)

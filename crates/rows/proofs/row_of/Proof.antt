@@ -57,5 +57,16 @@ returns-2 c = past _ _ (omega arith) (c .before .loop .inv .1)
 
 pub row-of-spec : {M : Type 1} → statement M
 row-of-spec =
-    tie.close (tie.spec Inv-loop μ-loop (λ c κs. search needs) loop-holds (λ c. search needs) (λ c. search needs) (λ c κs. search needs) returns
-    (λ c. search needs) (λ c. omega arith) loop-again returns-2)
+    tie.close (tie.spec
+    Inv-loop
+    μ-loop
+    (λ c κs. search needs)  -- table-requires
+    loop-holds
+    (λ c. search needs)  -- mul-matches
+    (λ c. search needs)  -- array-copy-out-matches
+    (λ c κs. search needs)  -- matches-requires
+    returns
+    (λ c. search needs)  -- add-i
+    (λ c. omega arith)  -- loop-less
+    loop-again
+    returns-2)

@@ -33,15 +33,15 @@ pub number-at-spec : {M : Type 1} → statement M
 number-at-spec =
     tie.close
     (tie.spec
-    (λ c. search needs)
-    (λ c κs. search needs)
-    (λ c. search needs)
-    (λ c κs. search needs)
-    (λ c κs. search needs)
-    (λ c κs. search needs)
-    (λ c. search needs)
-    (λ c κs. search needs)
-    (λ c. search needs)
+    (λ c. search needs)  -- add-byte-at
+    (λ c κs. search needs)  -- byte-at-requires
+    (λ c. search needs)  -- add-byte-at-2
+    (λ c κs. search needs)  -- byte-at-requires-2
+    (λ c κs. search needs)  -- is-digit-requires
+    (λ c κs. search needs)  -- worth-requires
+    (λ c. search needs)  -- mul-result
+    (λ c κs. search needs)  -- worth-requires-2
+    (λ c. search needs)  -- add-result
     returns
-    (λ c κs. search needs)
+    (λ c κs. search needs)  -- worth-requires-3
     returns-2)

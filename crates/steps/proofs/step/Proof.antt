@@ -129,23 +129,23 @@ pub step-spec : {M : Type 1} → statement M
 step-spec =
     tie.close
     (tie.spec
-    (λ c κs. search needs)
-    (λ c. search needs)
-    (λ c. search needs)
+    (λ c κs. search needs)  -- check-step-requires
+    (λ c. search needs)  -- same-length
+    (λ c. search needs)  -- same-length-2
     returns
     position-of-requires
     word-at-requires
-    (λ c κs. search needs)
-    (λ c. search needs)
-    (λ c. search needs)
-    (λ c. search needs)
+    (λ c κs. search needs)  -- decode-requires
+    (λ c. search needs)  -- enum-told
+    (λ c. search needs)  -- enum-told-2
+    (λ c. search needs)  -- enum-known-decoded
     perform-requires
-    (λ c. search needs)
-    (λ c. search needs)
+    (λ c. search needs)  -- same-length-3
+    (λ c. search needs)  -- same-length-4
     returns-2
-    (λ c. search needs)
-    (λ c. search needs)
+    (λ c. search needs)  -- same-length-5
+    (λ c. search needs)  -- same-length-6
     returns-3
-    (λ c. search needs)
-    (λ c. search needs)
+    (λ c. search needs)  -- same-length-7
+    (λ c. search needs)  -- same-length-8
     returns-4)

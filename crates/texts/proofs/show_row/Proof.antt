@@ -18,12 +18,12 @@ show-row-spec =
     (tie.spec
     Inv-loop
     μ-loop
-    (λ c. search needs)
-    (λ c κs. search needs)
-    (λ c κs. search needs)
-    (λ c κs. search needs)
-    (λ c κs. search needs)
-    (λ c. search needs)
-    (λ c. search needs)
-    (λ c. search needs)
-    (λ c. search needs))
+    (λ c. search needs)  -- loop-holds
+    (λ c κs. search needs)  -- word-of-requires
+    (λ c κs. search needs)  -- show-word-requires
+    (λ c κs. search needs)  -- word-of-requires-2
+    (λ c κs. search needs)  -- show-word-requires-2
+    (λ c. search needs)  -- add-size
+    (λ c. search needs)  -- loop-less
+    (λ c. search needs)  -- loop-again
+    (λ c. search needs))  -- returns

@@ -32,26 +32,26 @@ pub show-word-spec : {M : Type 1} → statement M
 show-word-spec =
     tie.close
     (tie.spec
-    (λ c κs. search needs)
-    (λ c. search needs)
-    (λ c κs. search needs)
-    (λ c κs. search needs)
-    (λ c. search needs)
-    (λ c κs. search needs)
-    (λ c. search needs)
-    (λ c κs. search needs)
+    (λ c κs. search needs)  -- all-requires
+    (λ c. search needs)  -- slice-aggregate-text
+    (λ c κs. search needs)  -- text-requires
+    (λ c κs. search needs)  -- print-hex-requires
+    (λ c. search needs)  -- slice-aggregate-write-all
+    (λ c κs. search needs)  -- write-all-requires
+    (λ c. search needs)  -- cast-print-decimal
+    (λ c κs. search needs)  -- print-decimal-requires
     assembled
-    (λ c. sym (length-take-le _ _ (assembled (c .before))))
-    (λ c κs. search needs)
-    (λ c κs. search needs)
-    (λ c. search needs)
-    (λ c κs. search needs)
+    (λ c. sym (length-take-le _ _ (assembled (c .before))))  -- slice-aggregate-assemble
+    (λ c κs. search needs)  -- all-requires-2
+    (λ c κs. search needs)  -- assemble-requires
+    (λ c. search needs)  -- slice-aggregate-write-all-2
+    (λ c κs. search needs)  -- write-all-requires-2
     shown
-    (λ c. sym (length-take-le _ _ (shown (c .before))))
-    (λ c κs. search needs)
-    (λ c. search needs)
-    (λ c κs. search needs)
-    (λ c κs. search needs)
-    (λ c. search needs)
-    (λ c κs. search needs)
-    (λ c. search needs))
+    (λ c. sym (length-take-le _ _ (shown (c .before))))  -- slice-aggregate-write-all-3
+    (λ c κs. search needs)  -- write-all-requires-3
+    (λ c. search needs)  -- slice-aggregate-write-all-4
+    (λ c κs. search needs)  -- write-all-requires-4
+    (λ c κs. search needs)  -- print-hex-requires-2
+    (λ c. search needs)  -- slice-aggregate-write-all-5
+    (λ c κs. search needs)  -- write-all-requires-5
+    (λ c. search needs))  -- returns

@@ -3,12 +3,12 @@
 use borrow.Author.Needs.{needs}
 use borrow.Author.Tests.{le-leb, lt-leb}
 use Prim.Native.Nat.{ℕ, _/_}
-use mathlib.Core.Path.{_≡_, sym, _∙_, ap₂}
+use mathlib.Core.Path.{_≡_, refl, sym, _∙_, ap₂}
 use mathlib.Core.Bool.{not}
 use mathlib.Core.List.{[], _∷_}
 use Rattle.machine.specs.Size.{vectorBytes}
 use Rattle.machine.specs.Refusal.{refused, rangeTest}
-use Rattle.machine.proofs.Tests.{refused-early, refused-later}
+use Rattle.machine.proofs.Tests.{Checked, checked}
 use Rattle.machine.proofs.Checks.{legal-most}
 use Rattle.lanes.specs.Lane.{widthOf}
 use Rattle.totals.specs.Calls.{laneRange, panelTests, subtotalRefused}
@@ -24,13 +24,13 @@ start c = c .before .before .before
 abbrev passed : tie.After-width-of → tie.Else1
 passed c = c .before .before .before
 
--- past the first test the range decides
-range : (c : tie.Else1)
-    → let a = start (c .before) .args in
-    subtotalRefused (a .k) (a .z .now) (a .p .now) (a .source) (a .governing) (a .size) (a .a) (a .b) ≡ refused (rangeTest (not (laneRange (a .k) (a .size) (a .a) (a .b))) ∷ [])
-range c =
-    let a = start (c .before) .args in
-    refused-later (panelTests (a .k) (a .z .now) (a .p .now) (a .source) (a .governing) (a .size)) tt _ _ (c .before .panel-refusal .ensures) (c .if1 .left)
+-- the refusal of the panel is the call's, and past it the range decides
+panel : (c : tie.After-panel-refusal) → let a = start c .args in
+    Checked (c .panel-refusal .result) (subtotalRefused (a .k) (a .z .now) (a .p .now) (a .source) (a .governing) (a .size) (a .a) (a .b))
+    (refused (rangeTest (not (laneRange (a .k) (a .size) (a .a) (a .b))) ∷ []))
+panel c =
+    let a = start c .args in
+    checked (panelTests (a .k) (a .z .now) (a .p .now) (a .source) (a .governing) (a .size)) tt refl (c .panel-refusal .ensures)
 
 -- past the first test the length, the files and the numbers are right
 accepted : (c : tie.Else1)
@@ -44,13 +44,8 @@ lanes : (c : tie.After-width-of)
     c .before .vector-bytes .result / c .width-of .result ≡ vectorBytes (a .k) / widthOf (a .size)
 lanes c = ap₂ (λ (m n : ℕ). m / n) (c .before .vector-bytes .ensures) (c .width-of .ensures)
 
-returns : tie.Need-returns
-returns c =
-    let a = start (c .before) .args in
-    refused-early (panelTests (a .k) (a .z .now) (a .p .now) (a .source) (a .governing) (a .size)) tt _ _ (c .before .panel-refusal .ensures) (c .if1 .taken)
-
 returns-2 : tie.Need-returns-2
-returns-2 c = sym (range (c .before) ∙ rw (lt-leb _ _ (c .if2 .taken)))
+returns-2 c = sym (panel (c .before .before) .passes (c .before .if1 .left) ∙ rw (lt-leb _ _ (c .if2 .taken)))
 
 vector-bytes-requires : tie.Need-vector-bytes-requires
 vector-bytes-requires c κs = legal-most _ (accepted (c .before) .lent .legal)
@@ -63,15 +58,27 @@ div-if3 c = rw (c .width-of .ensures) (width-legal _ (accepted (passed c) .size-
 
 returns-3 : tie.Need-returns-3
 returns-3 c =
+    let p = passed (c .before) in
     sym
-    (range (passed (c .before))
+    (panel (p .before) .passes (p .if1 .left)
     ∙ rw (le-leb _ _ (c .before .before .before .if2 .left), lt-leb _ _ (rw (lanes (c .before)) at (c .if3 .taken))))
 
 returns-4 : tie.Need-returns-4
 returns-4 c =
+    let p = passed (c .before) in
     sym
-    (range (passed (c .before))
+    (panel (p .before) .passes (p .if1 .left)
     ∙ rw (le-leb _ _ (c .before .before .before .if2 .left), le-leb _ _ (rw (lanes (c .before)) at (c .if3 .left))))
 
 pub subtotal-refusal-spec : {M : Type 1} → statement M
-subtotal-refusal-spec = tie.close (tie.spec (λ c κs. search needs) returns returns-2 vector-bytes-requires width-of-requires div-if3 returns-3 returns-4)
+subtotal-refusal-spec =
+    tie.close
+    (tie.spec
+    (λ c κs. search needs)
+    (λ c. panel (c .before) .refuses (c .if1 .taken))
+    returns-2
+    vector-bytes-requires
+    width-of-requires
+    div-if3
+    returns-3
+    returns-4)

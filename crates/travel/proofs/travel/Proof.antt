@@ -95,8 +95,9 @@ returns c =
     let l = c .before .loop in
     let a = start (c .before) .args in
     let b : Buffers = buffersOf (state (l .z) (now (a .p))) (l .journal) in
-    made-all (core (start (c .before))) (buffersOf (state (now (a .z)) (now (a .p))) (now (a .journal))) (now (a .program)) (now (a .directions)) b (l .made)
-    (sym (trip-ended (core (start (c .before))) (now (a .program)) (now (a .directions)) (l .i) (tripOf b (l .made)) (omega arith)) ∙ l .inv .5)
+    let told = made-all (core (start (c .before))) (buffersOf (state (now (a .z)) (now (a .p))) (now (a .journal))) (now (a .program)) (now (a .directions)) b (l .made)
+    (sym (trip-ended (core (start (c .before))) (now (a .program)) (now (a .directions)) (l .i) (tripOf b (l .made)) (omega arith)) ∙ l .inv .5) in
+    search needs
 
 pub travel-spec : {M : Type 1} → statement M
 travel-spec =
@@ -105,11 +106,11 @@ travel-spec =
     Inv-loop
     μ-loop
     loop-holds
-    (λ c. omega arith)
-    (λ c κs. search needs)
+    (λ c. omega arith)  -- shared-slice-read-direction
+    (λ c κs. search needs)  -- go-requires
     counted-requires
-    (λ c. omega arith)
-    (λ c. omega arith)
+    (λ c. omega arith)  -- add-i
+    (λ c. omega arith)  -- loop-less
     loop-again
     same-length
     same-length-2

@@ -60,14 +60,14 @@ pub step-line-spec : {M : Type 1} → statement M
 step-line-spec =
     tie.close
     (tie.spec
-    (λ c κs. search needs)
-    (λ c. search needs)
-    (λ c. search needs)
-    (λ c. search needs)
-    (λ c. search needs)
-    (λ c κs. search needs)
+    (λ c κs. search needs)  -- step-requires
+    (λ c. search needs)  -- sub-write-line
+    (λ c. search needs)  -- part-write-line-start
+    (λ c. search needs)  -- part-write-line-end
+    (λ c. search needs)  -- cast-write-line
+    (λ c κs. search needs)  -- write-line-requires
     add-t23
-    (λ c. search needs)
-    (λ c. search needs)
-    (λ c. search needs)
+    (λ c. search needs)  -- same-length
+    (λ c. search needs)  -- same-length-2
+    (λ c. search needs)  -- same-length-3
     returns)

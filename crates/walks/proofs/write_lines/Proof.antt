@@ -102,15 +102,15 @@ write-lines-spec =
     Inv-loop
     μ-loop
     loop-holds
-    (λ c κs. omega arith)
-    (λ c. search needs)
-    (λ c. search needs)
-    (λ c. search needs)
+    (λ c κs. omega arith)  -- step-line-requires
+    (λ c. search needs)  -- same-length
+    (λ c. search needs)  -- same-length-2
+    (λ c. search needs)  -- same-length-3
     returns
-    (λ c. omega arith)
-    (λ c. omega arith)
+    (λ c. omega arith)  -- add-position
+    (λ c. omega arith)  -- loop-less
     loop-again
-    (λ c. c .before .loop .inv .2)
-    (λ c. c .before .loop .inv .3)
-    (λ c. c .before .loop .inv .4)
+    (λ c. c .before .loop .inv .2)  -- same-length-4
+    (λ c. c .before .loop .inv .3)  -- same-length-5
+    (λ c. c .before .loop .inv .4)  -- same-length-6
     returns-2)

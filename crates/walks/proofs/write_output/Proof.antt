@@ -10,7 +10,7 @@ use borrow.Author.Tests.{lt-ltb, le-ltb}
 use Rattle.machine.specs.Size.{mostWords}
 use Rattle.machine.specs.Refusal.{OUT}
 use Rattle.digits.specs.Digits.{widthWithin, decimalWidth}
-use Rattle.session.specs.Layout.{programPart}
+use Rattle.session.specs.Body.{programPart}
 use Rattle.lines.specs.Line.{mostLine}
 use Rattle.lines.proofs.Lines.{written-refused, written-done}
 use Rattle.walks.specs.Output.{sessionBuffers, sessionCore, sessionLines, mostOutput}

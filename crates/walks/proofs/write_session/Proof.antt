@@ -3,7 +3,7 @@
 use native.Mathlib.Omega.{arith}
 use denote.Ref.{now}
 use borrow.Author.Needs.{needs}
-use Rattle.session.specs.Layout.{Parts}
+use Rattle.session.specs.Body.{Parts}
 use Rattle.session.proofs.Reading.{session-parts}
 use Rattle.walks.proofs.write_session.Statement.{statement}
 use Rattle.walks.proofs.write_session.Tie as tie
@@ -25,15 +25,15 @@ pub write-session-spec : {M : Type 1} → statement M
 write-session-spec =
     tie.close
     (tie.spec
-    (λ c. omega (arith, parts (begin c)))
-    (λ c. omega (arith, parts (begin c)))
-    (λ c. omega (arith, parts (begin c)))
-    (λ c. omega (arith, parts (begin (c .before))))
-    (λ c. omega (arith, parts (begin (c .before))))
-    (λ c. omega (arith, parts (begin (c .before))))
-    (λ c. omega (arith, parts (begin (c .before .before))))
-    (λ c. omega (arith, parts (begin (c .before .before))))
-    (λ c. omega (arith, parts (begin (c .before .before))))
+    (λ c. omega (arith, parts (begin c)))  -- sub-write-walk
+    (λ c. omega (arith, parts (begin c)))  -- part-write-walk-start
+    (λ c. omega (arith, parts (begin c)))  -- part-write-walk-end
+    (λ c. omega (arith, parts (begin (c .before))))  -- sub-write-walk-2
+    (λ c. omega (arith, parts (begin (c .before))))  -- part-write-walk-start-2
+    (λ c. omega (arith, parts (begin (c .before))))  -- part-write-walk-end-2
+    (λ c. omega (arith, parts (begin (c .before .before))))  -- sub-write-walk-3
+    (λ c. omega (arith, parts (begin (c .before .before))))  -- part-write-walk-start-3
+    (λ c. omega (arith, parts (begin (c .before .before))))  -- part-write-walk-end-3
     write-walk-requires
-    (λ c. search needs)
-    (λ c. search needs))
+    (λ c. search needs)  -- same-length
+    (λ c. search needs))  -- returns

@@ -64,15 +64,15 @@ pub write-walk-spec : {M : Type 1} → statement M
 write-walk-spec =
     tie.close
     (tie.spec
-    (λ c κs. search needs)
-    (λ c. search needs)
-    (λ c κs. search needs)
-    (λ c κs. search needs)
-    (λ c. search needs)
+    (λ c κs. search needs)  -- journal-room-requires
+    (λ c. search needs)  -- slice-aggregate-fresh
+    (λ c κs. search needs)  -- fresh-requires
+    (λ c κs. search needs)  -- file-room-requires
+    (λ c. search needs)  -- slice-aggregate-copy
     copy-requires
     array-borrow-prefix-file
-    (λ c. sized (c .before .before .before))
-    (λ c. search needs)
+    (λ c. sized (c .before .before .before))  -- slice-aggregate-write-lines
+    (λ c. search needs)  -- slice-aggregate-write-lines-2
     write-lines-requires
-    (λ c. search needs)
+    (λ c. search needs)  -- same-length
     returns)

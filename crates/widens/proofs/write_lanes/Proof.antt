@@ -55,24 +55,24 @@ pub write-lanes-spec : {M : Type 1} → statement M
 write-lanes-spec =
     tie.close
     (tie.spec
-    (λ c κs. search needs)
-    (λ c. search needs)
-    (λ c κs. pairwise-arm (c .before .before) 2 (omega arith))
-    (λ c κs. pairwise-arm (c .before .before) 4 (omega arith))
-    (λ c κs. let t = c .before .before in let m = c .before .match2 .rest in pairwise-arm t 8 (last (t .before .before) (m .0 .1) (m .1)))
-    (λ c. search needs)
-    (λ c κs. widening-arm (c .before .before) 2 (omega arith))
-    (λ c κs. widening-arm (c .before .before) 4 (omega arith))
-    (λ c κs. let t = c .before .before in let m = c .before .match3 .rest in widening-arm t 8 (last (t .before .before) (m .0 .1) (m .1)))
-    (λ c. search needs)
-    (λ c. c .before .before .write-turns .ensures)
-    (λ c. search needs)
-    (λ c. c .before .before .write-turns2 .ensures)
-    (λ c. search needs)
-    (λ c. c .before .before .write-turns3 .ensures)
-    (λ c. search needs)
-    (λ c. c .before .before .write-turns4 .ensures)
-    (λ c. search needs)
-    (λ c. c .before .before .write-turns5 .ensures)
-    (λ c. search needs)
-    (λ c. c .before .before .write-turns6 .ensures))
+    (λ c κs. search needs)  -- width-of-requires
+    (λ c. search needs)  -- enum-told
+    (λ c κs. pairwise-arm (c .before .before) 2 (omega arith))  -- write-turns-requires
+    (λ c κs. pairwise-arm (c .before .before) 4 (omega arith))  -- write-turns-requires-2
+    (λ c κs. let t = c .before .before in let m = c .before .match2 .rest in pairwise-arm t 8 (last (t .before .before) (m .0 .1) (m .1)))  -- write-turns-requires-3
+    (λ c. search needs)  -- enum-told-2
+    (λ c κs. widening-arm (c .before .before) 2 (omega arith))  -- write-turns-requires-4
+    (λ c κs. widening-arm (c .before .before) 4 (omega arith))  -- write-turns-requires-5
+    (λ c κs. let t = c .before .before in let m = c .before .match3 .rest in widening-arm t 8 (last (t .before .before) (m .0 .1) (m .1)))  -- write-turns-requires-6
+    (λ c. search needs)  -- same-length
+    (λ c. c .before .before .write-turns .ensures)  -- returns
+    (λ c. search needs)  -- same-length-2
+    (λ c. c .before .before .write-turns2 .ensures)  -- returns-2
+    (λ c. search needs)  -- same-length-3
+    (λ c. c .before .before .write-turns3 .ensures)  -- returns-3
+    (λ c. search needs)  -- same-length-4
+    (λ c. c .before .before .write-turns4 .ensures)  -- returns-4
+    (λ c. search needs)  -- same-length-5
+    (λ c. c .before .before .write-turns5 .ensures)  -- returns-5
+    (λ c. search needs)  -- same-length-6
+    (λ c. c .before .before .write-turns6 .ensures))  -- returns-6

@@ -3,16 +3,16 @@
 use borrow.Author.Needs.{needs}
 use mathlib.Core.Path.{_≡_, sym, _∙_, ap}
 use lib.ListN.{length}
-use Rattle.rows.specs.declared.Row.{Row}
+use Rattle.rows.specs.Table.{lineName}
 use Rattle.names.specs.Text.{keyOf}
 use Rattle.names.proofs.Keys.{row-good}
 use Rattle.names.proofs.row.key_of.Statement.{statement}
 use Rattle.names.proofs.row.key_of.Tie as tie
 
 -- the part that is read
-is : (c : tie.After-row-at) → c .row-at .result .0 ≡ keyOf (c .before .args .row)
+is : (c : tie.After-row-at) → lineName (c .row-at .result) ≡ keyOf (c .before .args .row)
 unfolding keyOf
-is c = ap (λ (r : Row). r .0) (c .row-at .ensures)
+is c = ap lineName (c .row-at .ensures)
 
 returns : tie.Need-returns
 returns c = record { is = is (c .before); size = sym (ap length (is (c .before)) ∙ row-good _ (c .before .before .pre) .key) }

@@ -64,13 +64,13 @@ row-named-spec =
     (tie.spec
     Inv-loop
     μ-loop
-    (λ c κs. search needs)
+    (λ c κs. search needs)  -- table-requires
     loop-holds
-    (λ c. search needs)
-    (λ c. search needs)
+    (λ c. search needs)  -- mul-is-named
+    (λ c. search needs)  -- array-copy-out-is-named
     is-named-requires
     returns
-    (λ c. omega arith)
-    (λ c. omega arith)
+    (λ c. omega arith)  -- add-i
+    (λ c. omega arith)  -- loop-less
     loop-again
     returns-2)
