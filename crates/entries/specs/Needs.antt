@@ -17,12 +17,12 @@ pub record Headed (k : ℕ) (journal : List ℕ) : Type 0 where
   pub legal : k ≤ mostLength
   pub header : headerOf journal ≤ length journal
 
--- and with a place for entry i
+-- a journal with its version's header, at a length, and with a place for entry i
 pub record EntryInside (k i : ℕ) (journal : List ℕ) : Type 0 where
   pub headed : Headed k journal
   pub place : i < capacityOf k journal
 
--- and with places for the first n entries
+-- a journal with its version's header, at a length, and with places for the first n entries
 pub record Fits (k n : ℕ) (journal : List ℕ) : Type 0 where
   pub headed : Headed k journal
   pub fits : n ≤ capacityOf k journal

@@ -54,6 +54,6 @@ positionAnswer k journal = answer (positionRefused k journal) (positionOf journa
 unfoldable pub freshened : ℕ → ℕ → List ℕ → Left (List ℕ)
 freshened k version journal = leaving (freshTests k version journal) (freshJournal version k (length journal)) journal
 
--- its contract: what it answered, and the journal as that is afterwards, is what it leaves
+-- the contract of fresh: what it answered, and the journal as that is afterwards, is what it leaves
 abbrev pub Freshened : ℕ → ℕ → List ℕ → ℕ → List ℕ → Type 0
 Freshened k version journal r after = leftWith r after ≡ freshened k version journal

@@ -25,10 +25,11 @@ fieldsNow program journal = fieldsOf (decoded (wordNow program journal))
 abbrev pub fullTests : ℕ → List ℕ → List Test
 fullTests k journal = test FULL (isFull k journal) ∷ []
 
--- the tests of a step, by what its word decodes to; and as the core takes it
+-- the tests of a step, by what its word decodes to
 abbrev pub testsBy : ℕ → List ℕ → Buffers → Decoded → List Test
 testsBy k program b d = startTests k program b ++ wordTests d ++ fullTests k (b .journal)
 
+-- the tests of a step on a core, which accepts or refuses its word
 abbrev pub stepTests : Core → List ℕ → Buffers → List Test
 stepTests c program b = testsBy (c .k) program b (decodedOn (c .facts) (wordNow program (b .journal)))
 
@@ -56,15 +57,16 @@ performed k f b = leaving (fullTests k (b .journal)) (carriedOut k f b) b
 unfoldable pub backed : ℕ → Buffers → Left Buffers
 backed k b = leaving (backTests k b) (takenBack k b) b
 
--- the contracts: what a call answered, and the buffers as they are afterwards, is what it leaves; and it was lent bytes
+-- the contract of a step: what it answered, and the buffers as they are afterwards, is what it leaves; and it was lent bytes
 pub record Stepped (c : Core) (program : List ℕ) (b : Buffers) (r : ℕ) (after : Buffers) : Type 0 where
   pub leaves : leftWith r after ≡ stepped c program b
   pub bytes : BytesIn b
 
+-- the contract of a step back: what it answered, and the buffers as they are afterwards, is what it leaves; and it was lent bytes
 pub record Backed (k : ℕ) (b : Buffers) (r : ℕ) (after : Buffers) : Type 0 where
   pub leaves : leftWith r after ≡ backed k b
   pub bytes : BytesIn b
 
--- of a step past its word
+-- the contract of a step past its word
 abbrev pub Performed : ℕ → Fields → Buffers → ℕ → Buffers → Type 0
 Performed k f b r after = leftWith r after ≡ performed k f b

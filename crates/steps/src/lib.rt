@@ -20,7 +20,8 @@ fn carry_out(k: usize, z: &mut [u8], p: &[u8], journal: &mut [u8], f: Fields)
 // Executes the word at the position and appends its entry; or FULL, and all as it stood.
 fn perform(k: usize, z: &mut [u8], p: &[u8], journal: &mut [u8], f: Fields) -> u8
     requires { ⌜ Ready k f (buffersOf (state (now z) (now p)) (now journal)) ⌝ }
-    ensures { λ r. ⌜ Performed k f (buffersOf (state (now (z .entry)) (now (p .entry))) (now (journal .entry))) r (buffersOf (state (now (z .exit)) (now (p .entry))) (now (journal .exit))) ⌝ }
+    ensures { λ r. ⌜ Performed k f (buffersOf (state (now (z .entry)) (now (p .entry))) (now (journal .entry))) r
+        (buffersOf (state (now (z .exit)) (now (p .entry))) (now (journal .exit))) ⌝ }
 {
     if entries::is_full(k, journal) {
         return refusal::FULL;
@@ -58,7 +59,8 @@ pub fn step(
 
 // Takes the last step back; or a refusal, and all as it stood.
 pub fn back(k: usize, z: &mut [u8], p: &[u8], journal: &mut [u8]) -> u8
-    ensures { λ r. ⌜ Backed k (buffersOf (state (now (z .entry)) (now (p .entry))) (now (journal .entry))) r (buffersOf (state (now (z .exit)) (now (p .entry))) (now (journal .exit))) ⌝ }
+    ensures { λ r. ⌜ Backed k (buffersOf (state (now (z .entry)) (now (p .entry))) (now (journal .entry))) r
+        (buffersOf (state (now (z .exit)) (now (p .entry))) (now (journal .exit))) ⌝ }
 {
     let number = journal::check_back(k, z, p, journal);
     if number != refusal::DONE {
