@@ -17,6 +17,7 @@ staticlib) mkdir -p target/staticlib; : >target/staticlib/libln.a ;;
 esac
 """
 TEST = "import os, sys\nprint('%s is tested')\nsys.exit(int(os.environ.get('%s', '0')))\n"
+TESTS = ("quotations", "seams", "terminal")
 VERDICT = b"7 passed, 0 failed\n"
 NO_PYTHON = "python3 is missing and cannot be installed"
 NO_COMPILER = "cargo or a C compiler is missing and cannot be installed"
@@ -29,7 +30,7 @@ def check():
             os.makedirs(os.path.dirname(os.path.join(copy, script)))
             shutil.copy(place(script), os.path.join(copy, script))
         os.mkdir(os.path.join(copy, "tests"))
-        for name in ("quotations", "terminal"):
+        for name in TESTS:
             write(os.path.join(copy, "tests", name), TEST % (name, name.upper()))
         bare = os.path.join(room, "bare")
         os.mkdir(bare)
@@ -67,15 +68,15 @@ def gates(copy, bare):
 
     gate("--nothing").expect(2, "--allow-skips is the only one", out=b"")
     fails(NO_PYTHON)
-    passes("the pages and of the terminal, " + NO_PYTHON, "everything of the host, " + NO_COMPILER)
+    passes("the pages, of the seams and of the terminal, " + NO_PYTHON, "everything of the host, " + NO_COMPILER)
     os.symlink(sys.executable, os.path.join(bare, "python3"))
     fails(NO_COMPILER)
     host("tools").expect(1, NO_COMPILER, out=b"")
     host("compare", "9").expect(1, NO_COMPILER, out=b"")
     host("--allow-skips", "compare", "9").expect(0)
-    passes("quotations is tested", "terminal is tested", NO_COMPILER)
-    for test in ("QUOTATIONS", "TERMINAL"):
-        out = gate("--allow-skips", **{test: "1"}).expect(1).out
+    passes(*(name + " is tested" for name in TESTS), NO_COMPILER)
+    for test in TESTS:
+        out = gate("--allow-skips", **{test.upper(): "1"}).expect(1).out
         expect(b"terminal is tested" in out and VERDICT not in out, "with a test that fails the gate printed", out)
     failed = gate("--allow-skips", FAILED="1").expect(1).out
     expect(failed.endswith(b"7 passed, 1 failed\n"), "with a crate that fails the gate printed", failed)
