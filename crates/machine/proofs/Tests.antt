@@ -85,6 +85,10 @@ kept n r done stood e h = sym (unless-refused n done stood (λ z. h (e ∙ z)))
 pub left : {X : Type 0} (n : ℕ) (done stood : X) → n ≡ 0 → done ≡ unlessRefused n done stood
 left n done stood e = rw e
 
+-- with a refusal a call that answers several values answers the refusal's number and nothing
+pub nothing-told : {X : Type 0} (nothing : ℕ → X) (m n : ℕ) (told : X) → m ≡ n → (m ≡ DONE → ⊥) → nothing m ≡ unlessRefused n told (nothing n)
+nothing-told nothing m n told e h = ap nothing e ∙ sym (unless-refused n told (nothing n) (λ z. h (e ∙ z)))
+
 -- an answer has the value 0 with a refusal, and the call's own without
 pub refused-answer : (m n v : ℕ) → m ≡ n → (m ≡ DONE → ⊥) → _≡_ {A = Answer} (record { number = m; value = 0 }) (answer n v)
 refused-answer m zero v e h = absurd (h e)

@@ -1,4 +1,7 @@
 pub mod Accepted
+pub mod OneLane
+pub mod Lanes
+pub mod Literals
 pub mod Answers
 pub mod Rows
 pub mod Written

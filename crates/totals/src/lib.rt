@@ -1,15 +1,111 @@
-// The calls for a panel and for a subtotal: what a pane draws of a sum, for every input.
+// The calls for one lane, for a panel and for a subtotal: what a pane draws of a sum, for every input.
 ghost use mathlib.Core.Path.{_≡_};
 ghost use Prim.Native.Nat.{_+_, _≤_};
 ghost use lib.ListN.{length};
 ghost use Rattle.parts.specs.Part.{withPart, laid};
-ghost use Rattle.machine.specs.Size.{segmentBytes};
+ghost use Rattle.machine.specs.Size.{segmentBytes, mostLength};
 ghost use Rattle.totals.specs.Calls.{panelRefused, panelAnswer, subtotalRefused, subtotalAnswer};
+ghost use Rattle.totals.specs.Lane.{isLane, laneRefused, laneAnswer, noLane};
 ghost use Rattle.totals.specs.Written.{panelBytes, joined, PanelWritten};
 use machine::Answer;
 use machine::Length;
 use machine::refusal;
 use registers::Kind;
+
+// What is told of a lane: its integer at 64 bits, whether it is active, where it starts in the vector file, and its bit of the predicate
+// register; with a refusal nothing.
+pub struct Lane {
+    pub number: u8,
+    pub value: u64,
+    pub active: bool,
+    pub start: usize,
+    pub bit: usize,
+}
+
+// Whether there are such a source register, predicate register, size and lane.
+fn is_lane(k: usize, source: usize, predicate: usize, size: usize, e: usize) -> bool
+    requires { ⌜ k ≤ mostLength ⌝ }
+    ensures { λ r. ⌜ r ≡ isLane k source predicate size e ⌝ }
+{
+    if Length::VECTORS <= source {
+        return false;
+    }
+    if Length::PREDICATES <= predicate {
+        return false;
+    }
+    if Length::SIZES <= size {
+        return false;
+    }
+    let length = Length { k };
+    e < length.vector_bytes() / lanes::width_of(size)
+}
+
+// The number that a lane is answered with: LENGTH, FILE, RANGE or DONE.
+fn lane_refusal(
+    k: usize,
+    z: &[u8],
+    p: &[u8],
+    source: usize,
+    predicate: usize,
+    size: usize,
+    e: usize,
+) -> u8
+    ensures { λ r. ⌜ r ≡ laneRefused k (now (z .entry)) (now (p .entry)) source predicate size e ⌝ }
+{
+    let files = machine::check_files(k, z, p);
+    if files != refusal::DONE {
+        return files;
+    }
+    if is_lane(k, source, predicate, size, e) {
+        refusal::DONE
+    } else {
+        refusal::RANGE
+    }
+}
+
+// A refusal with nothing told of a lane.
+fn no_lane(number: u8) -> Lane
+    ensures { λ r. ⌜ r ≡ noLane number ⌝ }
+{
+    Lane {
+        number,
+        value: 0,
+        active: false,
+        start: 0,
+        bit: 0,
+    }
+}
+
+// What is told of lane e of a source register under a predicate register; nothing where it is refused.
+pub fn read_lane(
+    k: usize,
+    z: &[u8],
+    p: &[u8],
+    source: usize,
+    predicate: usize,
+    size: usize,
+    signed: bool,
+    e: usize,
+) -> Lane
+    ensures { λ r. ⌜ r ≡ laneAnswer k (now (z .entry)) (now (p .entry)) source predicate size signed e ⌝ }
+{
+    let number = lane_refusal(k, z, p, source, predicate, size, e);
+    if number != refusal::DONE {
+        return no_lane(number);
+    }
+    let register = registers::register(k, Kind::Vector, z, source);
+    let governing = registers::register(k, Kind::Predicate, p, predicate);
+    let w = lanes::width_of(size);
+    let bit = e * w;
+    let start = registers::register_at(k, Kind::Vector, source) + bit;
+    Lane {
+        number,
+        value: lanes::element_at(register, w, signed, e),
+        active: lanes::is_active(governing, w, e),
+        start,
+        bit,
+    }
+}
 
 // The number that a panel is answered with: LENGTH, FILE, RANGE or DONE.
 pub fn panel_refusal(
