@@ -1,32 +1,35 @@
--- What the calls' tests tell where nothing refuses: of a step before its word is read, of a step back and of a position; and that such buffers
--- are all that the last two ask.
+-- What the calls' tests tell where nothing refuses: of a step before its word is read, of a step back, of a position and of an entry; and that such
+-- buffers are all that the last three ask.
 -- Assumes nothing.
-use Prim.Native.Nat.{ℕ, _*_, _%_, _≤_, _<_}
+use Prim.Native.Nat.{ℕ, _+_, _*_, _%_, _≤_, _<_}
 use mathlib.Core.Path.{_≡_, refl, _∙_}
 use mathlib.Core.Bool.{true, false}
 use mathlib.Core.List.{List, _++_}
 use native.Mathlib.Omega.{arith}
 use lib.Dec.{eqb}
-use lib.ListN.{length}
-use borrow.Author.Tests.{leb-true, leb-false, eqb-false, ne-eqb, eq-eqb, not-false}
+use lib.ListN.{length, getD}
+use borrow.Author.Tests.{leb-true, leb-false, lt-leb, eqb-false, ne-eqb, eq-eqb, not-false}
 use Rattle.parts.proofs.Same.{both-right}
 use Rattle.machine.specs.Size.{isLegal, isProgram, wordBytes, mostWords}
 use Rattle.machine.specs.Refusal.{lengthTests, programTests, refused}
 use Rattle.machine.proofs.Tests.{first-none, first-after, none-refused, unless-refused}
 use Rattle.machine.proofs.Checks.{files-checked, legal-most}
 use Rattle.registers.specs.declared.Kind.the-variants.{Vector}
+use Rattle.registers.specs.Register.{registerBytes, numbered}
 use Rattle.registers.specs.State.{Sized}
 use Rattle.registers.proofs.Places.{in-files}
 use Rattle.programs.specs.Word.{wordsOf, endTests}
-use Rattle.entries.specs.Layout.{versionOf, heldOf, positionOf, lastEntry, freshJournal}
+use Rattle.entries.specs.Layout.{versionOf, heldOf, positionOf, entryAt, lastEntry, freshJournal}
 use Rattle.entries.specs.Formed.{Formed}
 use Rattle.entries.specs.Tests.{journalTests}
+use Rattle.entries.specs.Needs.{EntryInside}
 use Rattle.appends.specs.Needs.{TakeBack}
 use Rattle.entries.proofs.Versions.{greatest-vector}
 use Rattle.entries.proofs.Formed.{length-legal, journal-checked, formed-passes}
 use Rattle.entries.proofs.Written.{last-named}
 use Rattle.journal.specs.Left.{Buffers}
-use Rattle.journal.specs.Calls.{freshTests, freshened, bufferTests, emptyTests, startRefused, backRefused, positionRefused}
+use Rattle.journal.specs.Calls.{freshTests, freshened, bufferTests, emptyTests, positionTests, entryTests, startRefused, backRefused, positionRefused, entryRefused, entryAnswer}
+use Rattle.journal.specs.declared.Held.{Held}
 
 -- what fresh answers is the refusal of its tests, and with none it leaves a fresh journal
 module _ (k version : ℕ) (journal : List ℕ) where
@@ -124,3 +127,37 @@ position-accepted k journal e =
 pub position-accepts : (k : ℕ) (journal : List ℕ) → isLegal k ≡ true → Formed k journal → positionRefused k journal ≡ 0
 unfolding positionRefused
 position-accepts k journal legal g = rw legal (formed-passes k journal g)
+
+-- what is known where an entry is told
+pub record AcceptedEntry (k : ℕ) (journal : List ℕ) (i : ℕ) : Type 0 where
+  pub position : AcceptedPosition k journal
+  pub inside : i < heldOf journal
+
+pub entry-accepted : (k : ℕ) (journal : List ℕ) (i : ℕ) → entryRefused k journal i ≡ 0 → AcceptedEntry k journal i
+unfolding entryRefused positionRefused
+entry-accepted k journal i e =
+    let none = none-refused (positionTests k journal) tt _ e in
+    record { position = position-accepted k journal (none .0); inside = leb-false (heldOf journal) i (first-none (entryTests k journal i) tt e .1 .1 .1 .0) }
+
+-- and that is all that it asks
+pub entry-accepts : (k : ℕ) (journal : List ℕ) (i : ℕ) → AcceptedEntry k journal i → entryRefused k journal i ≡ 0
+unfolding entryRefused positionRefused
+entry-accepts k journal i h =
+    first-after (positionTests k journal) _ tt (position-accepts k journal (h .position .legal) (h .position .formed)) ∙ rw (lt-leb (heldOf journal) i (h .inside))
+
+-- such an entry has its place
+pub entry-placed-in : (k : ℕ) (journal : List ℕ) (i : ℕ) → AcceptedEntry k journal i → EntryInside k i journal
+entry-placed-in k journal i h =
+    record {
+      headed = record { legal = legal-most k (h .position .legal); header = h .position .formed .least };
+      place = omega (arith, h .inside, h .position .formed .fits);
+    }
+
+-- what is told of it, from its place and its register's bytes
+pub entry-told : (k : ℕ) (journal : List ℕ) (i : ℕ) {n at b : ℕ}
+    → n ≡ entryRefused k journal i
+    → entryRefused k journal i ≡ 0
+    → at ≡ entryAt k journal i
+    → b ≡ registerBytes k (numbered (getD journal at 0) .kind)
+    → _≡_ {A = Held} (record { number = n; target = getD journal at 0; start = at + 1; bytes = b }) (entryAnswer k journal i)
+entry-told k journal i number done place bytes = rw (number, done, bytes, place)

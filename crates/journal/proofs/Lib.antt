@@ -1,3 +1,4 @@
 pub mod Left
 pub mod Accepted
 pub mod Answers
+pub mod Literals

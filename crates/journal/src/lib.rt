@@ -1,9 +1,10 @@
-// The step-back journal: a fresh one, its position, and whether a step or a step back is refused.
+// The step-back journal: a fresh one, its position, an entry that it holds, and whether a step or a step back is refused.
 ghost use mathlib.Core.Path.{_≡_};
 ghost use Rattle.registers.specs.State.{state};
 ghost use Rattle.entries.specs.Layout.{firstVersion};
 ghost use Rattle.journal.specs.Left.{buffersOf};
 ghost use Rattle.journal.specs.Calls.{startRefused, backRefused, positionRefused, positionAnswer, Freshened};
+ghost use Rattle.journal.specs.Calls.{entryRefused, entryAnswer, noEntry};
 use machine::Answer;
 use machine::Length;
 use machine::refusal;
@@ -86,5 +87,59 @@ pub fn position(k: usize, journal: &[u8]) -> Answer
     Answer {
         number,
         value: entries::position_of(journal) as u64,
+    }
+}
+
+// What is told of a held entry: its register's number, where that register's old bytes start in the journal, and how many they are; with a
+// refusal nothing.
+pub struct Held {
+    pub number: u8,
+    pub target: usize,
+    pub start: usize,
+    pub bytes: usize,
+}
+
+// The refusal of a held entry: LENGTH, ROOM, JOURNAL, RANGE or DONE.
+fn check_entry(k: usize, journal: &[u8], i: usize) -> u8
+    ensures { λ r. ⌜ r ≡ entryRefused k (now (journal .entry)) i ⌝ }
+{
+    let position = check_position(k, journal);
+    if position != refusal::DONE {
+        return position;
+    }
+    if entries::held_of(journal) <= i {
+        return refusal::RANGE;
+    }
+    refusal::DONE
+}
+
+// A refusal with nothing told of an entry.
+fn no_entry(number: u8) -> Held
+    ensures { λ r. ⌜ r ≡ noEntry number ⌝ }
+{
+    Held {
+        number,
+        target: 0,
+        start: 0,
+        bytes: 0,
+    }
+}
+
+// What is told of the held entry i, the oldest being 0; nothing where it is refused.
+pub fn read_entry(k: usize, journal: &[u8], i: usize) -> Held
+    ensures { λ r. ⌜ r ≡ entryAnswer k (now (journal .entry)) i ⌝ }
+{
+    let number = check_entry(k, journal, i);
+    if number != refusal::DONE {
+        return no_entry(number);
+    }
+    let at = entries::entry_at(k, journal, i);
+    let start = at + 1;
+    let target = journal[at] as usize;
+    Held {
+        number,
+        target,
+        start,
+        bytes: registers::register_bytes(k, registers::kind_numbered(target)),
     }
 }

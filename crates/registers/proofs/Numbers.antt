@@ -1,6 +1,6 @@
 -- A register's number in an entry: each register that there is has its own, and each number names the register that has it.
 -- Assumes nothing.
-use Prim.Native.Nat.{ℕ, _+_, _-_, _<_}
+use Prim.Native.Nat.{ℕ, _+_, _-_, _≤_, _<_}
 use mathlib.Core.Path.{_≡_, refl, _∙_, ap}
 use mathlib.Core.Bool.{Bool, true, false}
 use native.Mathlib.Nat.{add-sub-cancel-left}
@@ -29,6 +29,11 @@ vector-numbered n h = rw (lt-ltb n vectors h)
 pub predicate-numbered : (n : ℕ) → numbered (vectors + n) ≡ predicate n
 unfolding numbered
 predicate-numbered n = rw (le-ltb (vectors + n) vectors (omega arith), add-sub-cancel-left vectors n)
+
+-- every number behind the vectors is a predicate's
+pub behind-vectors : (n : ℕ) → vectors ≤ n → numbered n .kind ≡ Predicate
+unfolding numbered
+behind-vectors n h = rw (le-ltb n vectors h)
 
 -- there and back
 pub numbered-number : (r : Register) → IsRegister r → numbered (entryNumber r) ≡ r

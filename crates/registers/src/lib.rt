@@ -4,7 +4,7 @@ ghost use mathlib.Core.Path.{_≡_};
 ghost use Prim.Native.Nat.{_≤_, _<_};
 ghost use lib.ListN.{length};
 ghost use Rattle.machine.specs.Size.{mostLength};
-ghost use Rattle.registers.specs.Register.{registerCount, registerBytes, registerAt, registerOf, withRegister, padded, InFile};
+ghost use Rattle.registers.specs.Register.{registerCount, registerBytes, registerAt, registerOf, withRegister, padded, numbered, InFile};
 
 // The two kinds of register.
 pub enum Kind {
@@ -19,6 +19,17 @@ pub fn register_count(kind: Kind) -> usize
     match kind {
         Kind::Vector => Length::VECTORS,
         Kind::Predicate => Length::PREDICATES,
+    }
+}
+
+// The kind of the register that a number names in an entry.
+pub fn kind_numbered(number: usize) -> Kind
+    ensures { λ r. ⌜ r ≡ numbered number .kind ⌝ }
+{
+    if number < Length::VECTORS {
+        Kind::Vector
+    } else {
+        Kind::Predicate
     }
 }
 
