@@ -40,7 +40,7 @@ fn has(facts: Facts, need: Need) -> bool
 }
 
 // What the row at a place needs.
-fn need_of(row: usize) -> Need
+pub fn need_of(row: usize) -> Need
     requires { ⌜ row < rows ⌝ }
     ensures { λ r. ⌜ r ≡ needOf row ⌝ }
 {

@@ -81,7 +81,7 @@ fn allows_low(low: LowFamily, signed: bool, q: usize, size: usize) -> bool
 }
 
 // Whether a form allows a size.
-fn allows_size(form: Form, q: usize, size: usize) -> bool
+pub fn allows_size(form: Form, q: usize, size: usize) -> bool
     requires { ⌜ (size < 2 ^ sizeDigits) × (q < 2) ⌝ }
     ensures { λ r. ⌜ r ≡ allows form q size ⌝ }
 {
@@ -123,7 +123,7 @@ pub fn second_digits(family: Family) -> u32
 }
 
 // How many digits Q has in a family's words.
-fn q_digits(family: Family) -> u32
+pub fn q_digits(family: Family) -> u32
     ensures { λ r. ⌜ Counted (qDigits family) r ⌝ }
 {
     match family {

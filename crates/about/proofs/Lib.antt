@@ -1,0 +1,4 @@
+pub mod Arms
+pub mod Answers
+pub mod Needs
+pub mod Literals
