@@ -9,12 +9,13 @@ use Rattle.facts.specs.Facts.{factsOf}
 use Rattle.cores.specs.Core.{decodedOn}
 use Rattle.names.specs.Named.{Named}
 use Rattle.names.proofs.Naming.{text-determined}
+use Rattle.about.specs.About.{aboutAnswer}
 use Rattle.assembles.specs.Assembled.{Assembled}
 use Rattle.assembles.proofs.Theorems.{assemble-determined}
 use Rattle.programs.specs.Word.{nextWord}
 use Rattle.entries.specs.Layout.{firstVersion}
 use Rattle.journal.specs.Left.{coreOf, Buffers}
-use Rattle.journal.specs.Calls.{positionAnswer, Freshened}
+use Rattle.journal.specs.Calls.{positionAnswer, entryAnswer, Freshened}
 use Rattle.journal.proofs.Answers.{fresh-determined}
 use Rattle.steps.specs.Calls.{Stepped, Backed}
 use Rattle.steps.proofs.Answers.{step-determined, back-determined}
@@ -22,13 +23,17 @@ use Rattle.session.specs.Layout.{sessionOf}
 use Rattle.lines.specs.Line.{LineWritten, stepLine}
 use Rattle.lines.proofs.Lines.{line-determined}
 use Rattle.ln.specs.declared.LnAnswer.{LnAnswer}
+use Rattle.ln.specs.declared.LnEntry.{LnEntry}
 use Rattle.ln.specs.declared.LnFields.{LnFields}
+use Rattle.ln.specs.declared.LnLane.{LnLane}
 use Rattle.ln.specs.declared.LnPlace.{LnPlace}
+use Rattle.ln.specs.declared.LnRowAbout.{LnRowAbout}
 use Rattle.ln.specs.declared.LnSession.{LnSession}
 use Rattle.ln.specs.declared.LnWord.{LnWord}
-use Rattle.ln.specs.Outside.{answerOut, answerIn, decodedOut, sessionOut, wordOut}
+use Rattle.ln.specs.Outside.{libraryVersion, answerOut, answerIn, decodedOut, sessionOut, wordOut, entryOut, aboutOut}
 use Rattle.totals.specs.Written.{PanelWritten}
 use Rattle.ln.specs.Posts.{WordDecoded, WordRead, SessionRead, RegisterPlaced, Subtotalled, PositionTold}
+use Rattle.ln.specs.Posts.{LaneRead, EntryRead, RowRead, VersionTold}
 use Rattle.totals.proofs.Written.{panel-written-determined}
 
 pub ln-decode-determined : (word facts : ℕ) (r q : LnFields) → WordDecoded word facts r → WordDecoded word facts q → r ≡ q
@@ -54,6 +59,15 @@ ln-fresh-determined k = fresh-determined k firstVersion
 pub ln-position-determined : (k : ℕ) (journal : List ℕ) (r q : LnAnswer) → PositionTold k journal r → PositionTold k journal q → r ≡ q
 ln-position-determined k journal = one-result (answerOut (positionAnswer k journal))
 
+pub ln-read-entry-determined : (k : ℕ) (journal : List ℕ) (index : ℕ) (r q : LnEntry) → EntryRead k journal index r → EntryRead k journal index q → r ≡ q
+ln-read-entry-determined k journal index = one-result (entryOut (entryAnswer k journal index))
+
+pub ln-read-row-determined : (row : ℕ) (r q : LnRowAbout) → RowRead row r → RowRead row q → r ≡ q
+ln-read-row-determined row = one-result (aboutOut (aboutAnswer row))
+
+pub ln-version-determined : (r q : ℕ) → VersionTold r → VersionTold q → r ≡ q
+ln-version-determined = one-result libraryVersion
+
 -- calls on both files
 module _ (k : ℕ) (s : State) where
   pub ln-subtotal-determined : (source governing size is-signed a b : ℕ) (r q : LnAnswer)
@@ -61,6 +75,12 @@ module _ (k : ℕ) (s : State) where
       → Subtotalled k (s .z) (s .p) source governing size is-signed a b q
       → r ≡ q
   ln-subtotal-determined source governing size is-signed a b = one-result _
+
+  pub ln-read-lane-determined : (source predicate size is-signed lane : ℕ) (r q : LnLane)
+      → LaneRead k (s .z) (s .p) source predicate size is-signed lane r
+      → LaneRead k (s .z) (s .p) source predicate size is-signed lane q
+      → r ≡ q
+  ln-read-lane-determined source predicate size is-signed lane = one-result _
 
   pub ln-register-place-determined : (predicate number : ℕ) (r q : LnPlace) → RegisterPlaced k (s .z) (s .p) predicate number r
       → RegisterPlaced k (s .z) (s .p) predicate number q

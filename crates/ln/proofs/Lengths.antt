@@ -13,9 +13,10 @@ use Rattle.registers.specs.State.{State}
 use Rattle.registers.specs.declared.Kind.{Kind}
 use Rattle.pane.specs.Drawn.{registerRefused}
 use Rattle.totals.specs.Calls.{panelRefused, subtotalRefused}
+use Rattle.totals.specs.Lane.{laneRefused}
 use Rattle.totals.specs.Written.{panelWrittenRefused}
 use Rattle.journal.specs.Left.{coreOf, Buffers}
-use Rattle.journal.specs.Calls.{freshened, positionRefused}
+use Rattle.journal.specs.Calls.{freshened, positionRefused, entryRefused}
 use Rattle.steps.specs.Calls.{stepped, backed}
 use Rattle.steps.proofs.Accepted.{step-number, back-tests}
 use Rattle.journal.proofs.Accepted.{fresh-number}
@@ -30,6 +31,14 @@ module _ (k : ℕ) (none : Legal k → ⊥) where
   pub position-length : (journal : List ℕ) → positionRefused k journal ≡ LENGTH
   unfolding positionRefused
   position-length journal = rw (illegal k none)
+
+  pub entry-length : (journal : List ℕ) (i : ℕ) → entryRefused k journal i ≡ LENGTH
+  unfolding entryRefused
+  entry-length journal i = rw (illegal k none)
+
+  pub lane-length : (z p : List ℕ) (source predicate size e : ℕ) → laneRefused k z p source predicate size e ≡ LENGTH
+  unfolding laneRefused
+  lane-length z p source predicate size e = rw (illegal k none)
 
   pub register-length : (z p : List ℕ) (kind : Kind) (r : ℕ) → registerRefused k z p kind r ≡ LENGTH
   register-length z p kind r = rw (illegal k none)

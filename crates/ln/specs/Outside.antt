@@ -1,6 +1,6 @@
 -- What a host is handed: the library's answers as records of C.
 use Prim.Native.Nat.{ℕ}
-use mathlib.Core.Bool.{Bool, true, false, not}
+use mathlib.Core.Bool.{Bool, true, false, not, cond}
 use mathlib.Core.List.{List}
 use lib.Dec.{eqb}
 use Rattle.machine.specs.Refusal.{unlessRefused}
@@ -14,16 +14,29 @@ use Rattle.registers.specs.declared.Kind.the-variants.{Vector, Predicate}
 use Rattle.programs.specs.declared.Next.{Next}
 use Rattle.registers.specs.Register.{registerBytes, registerAt}
 use Rattle.pane.specs.Drawn.{registerRefused}
+use Rattle.totals.specs.declared.Lane.{Lane}
+use Rattle.journal.specs.declared.Held.{Held}
+use Rattle.about.specs.declared.About.{About}
 use Rattle.ln.specs.declared.LnAnswer.{LnAnswer}
+use Rattle.ln.specs.declared.LnEntry.{LnEntry}
 use Rattle.ln.specs.declared.LnFields.{LnFields}
+use Rattle.ln.specs.declared.LnLane.{LnLane}
 use Rattle.ln.specs.declared.LnPlace.{LnPlace}
+use Rattle.ln.specs.declared.LnRowAbout.{LnRowAbout}
 use Rattle.session.specs.declared.Session.{Session}
 use Rattle.ln.specs.declared.LnSession.{LnSession}
 use Rattle.ln.specs.declared.LnWord.{LnWord}
 
--- a flag of C: every number but 0 says yes
+-- the version of the header that the library is for
+abbrev pub libraryVersion : ℕ
+libraryVersion = 7
+
+-- a flag of C: every number but 0 says yes; one that is told is 1 or 0
 abbrev pub isSet : ℕ → Bool
 isSet n = not (eqb n 0)
+
+abbrev pub flagFor : Bool → ℕ
+flagFor t = cond t 1 0
 
 -- the answer with the number as wide as the value, and back
 abbrev pub answerOut : Answer → LnAnswer
@@ -69,3 +82,25 @@ wordOut n = record { number = n .number; word = n .word; at = n .at }
 abbrev pub sessionOut : Session → LnSession
 sessionOut s =
     record { number = s .number; k = s .k; count = s .count; vectors = s .vectors; predicates = s .predicates; program = s .program; facts = byteOf (s .facts) }
+
+-- what is told of a lane, of an entry and of a row
+abbrev pub laneOut : Lane → LnLane
+laneOut l = record { number = l .number; value = l .value; active = flagFor (l .active); start = l .start; bit = l .bit }
+
+abbrev pub entryOut : Held → LnEntry
+entryOut e = record { number = e .number; target = e .target; start = e .start; bytes = e .bytes }
+
+abbrev pub aboutOut : About → LnRowAbout
+aboutOut a =
+    record {
+      number = a .number;
+      «is_signed» = flagFor (a .signed);
+      «has_g» = flagFor (a .«has_g»);
+      «has_m» = flagFor (a .«has_m»);
+      «has_q» = flagFor (a .«has_q»);
+      «reads_destination» = flagFor (a .«reads_destination»);
+      need = a .need;
+      «n_bytes» = a .«n_bytes»;
+      «m_bytes» = a .«m_bytes»;
+      «d_bytes» = a .«d_bytes»;
+    }

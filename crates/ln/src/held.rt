@@ -1,8 +1,11 @@
 // Callers that keep the contracts of the calls: what a host is promised of the answer and of the lent buffers, a caller here promises again
 // from the call's contract alone, so a contract that is cut down is refused here. Each exported call has one, and no host calls them.
 use crate::LnAnswer;
+use crate::LnEntry;
 use crate::LnFields;
+use crate::LnLane;
 use crate::LnPlace;
+use crate::LnRowAbout;
 use crate::LnSession;
 use crate::LnWord;
 ghost use Rattle.registers.specs.State.{state};
@@ -16,6 +19,7 @@ ghost use Rattle.steps.specs.Calls.{Stepped, Backed};
 ghost use Rattle.lines.specs.Line.{LineWritten};
 ghost use Rattle.totals.specs.Written.{PanelWritten};
 ghost use Rattle.ln.specs.Posts.{WordDecoded, WordRead, SessionRead, RegisterPlaced, Subtotalled, PositionTold};
+ghost use Rattle.ln.specs.Posts.{LaneRead, EntryRead, RowRead, VersionTold};
 ghost use Rattle.ln.specs.Outside.{answerIn};
 
 // A word decoded by the host's call: the number and every field.
@@ -150,4 +154,41 @@ pub(crate) fn held_panel(
     ensures { λ r. ⌜ PanelWritten k (now (z .entry)) (now (p .entry)) source governing size (now (out .entry)) r (now (out .exit)) ⌝ }
 {
     crate::ln_panel(k, z, p, source, governing, size, out)
+}
+
+// A lane by the host's call: the number, and all that is told of it.
+pub(crate) fn held_read_lane(
+    k: usize,
+    z: &[u8],
+    p: &[u8],
+    source: usize,
+    predicate: usize,
+    size: usize,
+    is_signed: u64,
+    lane: usize,
+) -> LnLane
+    ensures { λ r. ⌜ LaneRead k (now (z .entry)) (now (p .entry)) source predicate size «is_signed» lane r ⌝ }
+{
+    crate::ln_read_lane(k, z, p, source, predicate, size, is_signed, lane)
+}
+
+// A journal's entry by the host's call: the number, the register's number, and where its old bytes stand.
+pub(crate) fn held_read_entry(k: usize, journal: &[u8], index: usize) -> LnEntry
+    ensures { λ r. ⌜ EntryRead k (now (journal .entry)) index r ⌝ }
+{
+    crate::ln_read_entry(k, journal, index)
+}
+
+// A row by the host's call: the number, and all that is told of it.
+pub(crate) fn held_read_row(row: usize) -> LnRowAbout
+    ensures { λ r. ⌜ RowRead row r ⌝ }
+{
+    crate::ln_read_row(row)
+}
+
+// The version by the host's call.
+pub(crate) fn held_version() -> u64
+    ensures { λ r. ⌜ VersionTold r ⌝ }
+{
+    crate::ln_version()
 }

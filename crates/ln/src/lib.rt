@@ -14,8 +14,9 @@ ghost use Rattle.journal.specs.Calls.{Freshened};
 ghost use Rattle.steps.specs.Calls.{Stepped, Backed};
 ghost use Rattle.lines.specs.Line.{LineWritten};
 ghost use Rattle.ln.specs.Posts.{WordDecoded, WordRead, SessionRead, RegisterPlaced, Subtotalled, PositionTold};
+ghost use Rattle.ln.specs.Posts.{LaneRead, EntryRead, RowRead, VersionTold};
 ghost use Rattle.totals.specs.Written.{PanelWritten};
-ghost use Rattle.ln.specs.Outside.{answerIn, fieldsOut, flagOf, placeFor};
+ghost use Rattle.ln.specs.Outside.{answerIn, fieldsOut, flagFor, flagOf, placeFor};
 
 mod held;
 
@@ -66,6 +67,53 @@ pub struct LnSession {
     pub predicates: u64,
     pub program: u64,
     pub facts: u64,
+}
+
+// A lane: its integer at 64 bits, whether it is active, its first byte in the vector file and its bit in the predicate register; 0 with a
+// refusal.
+#[repr(C)]
+pub struct LnLane {
+    pub number: u64,
+    pub value: u64,
+    pub active: u64,
+    pub start: u64,
+    pub bit: u64,
+}
+
+// A journal's entry: its register's number, and where that register's old bytes stand in the journal and how many; 0 with a refusal.
+#[repr(C)]
+pub struct LnEntry {
+    pub number: u64,
+    pub target: u64,
+    pub start: u64,
+    pub bytes: u64,
+}
+
+// What a row is: flags, the byte of facts of which one is enough, and for sizes 0 to 3 the bytes of the lanes that its words read and write;
+// 0 with a refusal.
+#[repr(C)]
+pub struct LnRowAbout {
+    pub number: u64,
+    pub is_signed: u64,
+    pub has_g: u64,
+    pub has_m: u64,
+    pub has_q: u64,
+    pub reads_destination: u64,
+    pub need: u64,
+    pub n_bytes: [u64; 4],
+    pub m_bytes: [u64; 4],
+    pub d_bytes: [u64; 4],
+}
+
+// The version of the header that the library is for.
+const VERSION: u64 = 7;
+
+// The version of the header that the library is for.
+#[no_mangle]
+pub extern "C" fn ln_version() -> u64
+    ensures { λ r. ⌜ VersionTold r ⌝ }
+{
+    VERSION
 }
 
 // A word's fields on a core, or UNKNOWN or UNDEFINED.
@@ -320,4 +368,72 @@ pub extern "C" fn ln_panel(
     ensures { λ r. ⌜ PanelWritten k (now (z .entry)) (now (p .entry)) source governing size (now (out .entry)) r (now (out .exit)) ⌝ }
 {
     totals::write_panel(k, z, p, source, governing, size, out) as u64
+}
+
+// A flag that is told: 1 or 0.
+fn flag(t: bool) -> u64
+    ensures { λ r. ⌜ r ≡ flagFor t ⌝ }
+{
+    if t { 1 } else { 0 }
+}
+
+// A lane of a source under a predicate register, or LENGTH, FILE or RANGE.
+#[no_mangle]
+pub extern "C" fn ln_read_lane(
+    k: usize,
+    z: &[u8],
+    p: &[u8],
+    source: usize,
+    predicate: usize,
+    size: usize,
+    is_signed: u64,
+    lane: usize,
+) -> LnLane
+    ensures { λ r. ⌜ LaneRead k (now (z .entry)) (now (p .entry)) source predicate size «is_signed» lane r ⌝ }
+{
+    let told = totals::read_lane(k, z, p, source, predicate, size, is_signed != 0, lane);
+    LnLane {
+        number: told.number as u64,
+        value: told.value,
+        active: flag(told.active),
+        start: told.start as u64,
+        bit: told.bit as u64,
+    }
+}
+
+// A journal's entry, the oldest held being 0, or LENGTH, ROOM, JOURNAL or RANGE.
+#[no_mangle]
+pub extern "C" fn ln_read_entry(k: usize, journal: &[u8], index: usize) -> LnEntry
+    ensures { λ r. ⌜ EntryRead k (now (journal .entry)) index r ⌝ }
+{
+    let told = journal::read_entry(k, journal, index);
+    LnEntry {
+        number: told.number as u64,
+        target: told.target as u64,
+        start: told.start as u64,
+        bytes: told.bytes as u64,
+    }
+}
+
+// What a row is, or RANGE.
+#[no_mangle]
+pub extern "C" fn ln_read_row(row: usize) -> LnRowAbout
+    ensures { λ r. ⌜ RowRead row r ⌝ }
+{
+    let told = about::read_row(row);
+    let n_bytes = told.n_bytes;
+    let m_bytes = told.m_bytes;
+    let d_bytes = told.d_bytes;
+    LnRowAbout {
+        number: told.number as u64,
+        is_signed: flag(told.signed),
+        has_g: flag(told.has_g),
+        has_m: flag(told.has_m),
+        has_q: flag(told.has_q),
+        reads_destination: flag(told.reads_destination),
+        need: told.need as u64,
+        n_bytes,
+        m_bytes,
+        d_bytes,
+    }
 }
