@@ -1,7 +1,7 @@
 -- Demand 1 by the calls' own theorems: each number is the refusal of a list of tests in the paper's order, so that every refusal comes exactly
 -- in its case; and what is lent, or the value, is by the contract as it stood, or nothing, wherever the number is a refusal's.
 -- Assumes nothing.
-use Prim.Native.Nat.{ℕ, _+_}
+use Prim.Native.Nat.{ℕ, zero, suc, _+_}
 use mathlib.Core.Path.{_≡_, refl, sym, _∙_, ap}
 use mathlib.Core.Bool.{Bool, true, false}
 use mathlib.Core.Logic.{_↔_, _⊎_, inl, inr, ⊎-elim}
@@ -34,15 +34,22 @@ use Rattle.pane.proofs.Drawing.{register-in-order, empty-place}
 use Rattle.sums.specs.Panel.{panelOf, noPanel}
 use Rattle.totals.specs.Calls.{panelTests, subtotalTests}
 use Rattle.totals.specs.Written.{panelWrittenTests, panelLaid}
+use Rattle.totals.specs.Lane.{laneTests, laneRefused, laneTold, noLane}
+use Rattle.totals.specs.declared.Lane.{Lane}
+use Rattle.totals.proofs.Lanes.{lane-in-order}
+use Rattle.about.specs.About.{rowTests, rowRefused, rowTold, noAbout}
+use Rattle.about.specs.declared.About.{About}
+use Rattle.about.proofs.Answers.{row-in-order}
 use Rattle.totals.proofs.Answers.{panel-in-order, subtotal-in-order}
 use Rattle.totals.proofs.Written.{panel-written-in-order}
 use Rattle.names.specs.Named.{textOfWord, nameTests}
 use Rattle.names.proofs.Naming.{name-in-order}
 use Rattle.entries.specs.Layout.{positionOf}
-use Rattle.journal.specs.Calls.{freshTests, backTests, positionTests, positionRefused}
+use Rattle.journal.specs.Calls.{freshTests, backTests, positionTests, positionRefused, entryTests, entryRefused, entryTold, noEntry}
+use Rattle.journal.specs.declared.Held.{Held}
 use Rattle.journal.proofs.Left.{number-left, buffers-left}
 use Rattle.journal.proofs.Accepted.{fresh-number, fresh-refused}
-use Rattle.journal.proofs.Answers.{fresh-in-order, position-in-order}
+use Rattle.journal.proofs.Answers.{fresh-in-order, position-in-order, entry-in-order}
 use Rattle.steps.specs.Calls.{stepTests}
 use Rattle.steps.proofs.Accepted.{step-number, step-refused, back-tests, back-refused}
 use Rattle.steps.proofs.Answers.{step-in-order, back-in-order}
@@ -73,6 +80,22 @@ answers tests refusal value r ordered is e =
       nothing = when-refused (r .number) refusal (r .value) value 0 number (ap (λ (a : Answer). a .value) e);
     }
 
+-- a call that tells several values, or with a refusal its number and nothing
+tells : {X : Type 0} (tests : List Test) (refusal : ℕ) (number : X → ℕ) (nothing : ℕ → X) (told r : X) → inOrder tests ≡ true → refusal ≡ refused tests
+    → number told ≡ DONE → ((n : ℕ) → number (nothing n) ≡ n) → r ≡ unlessRefused refusal told (nothing refusal)
+    → Exactly tests (number r) × WhenRefused (number r) r (nothing (number r))
+tells {X} tests refusal number nothing told r ordered is done none e = (
+  exactly-refused tests (number r) ordered (same ∙ is),
+  λ h. when-refused (number r) refusal r told (nothing refusal) same e h ∙ ap nothing (sym same),
+)
+  where
+    by : (n : ℕ) → number (unlessRefused n told (nothing n)) ≡ n
+    by zero = done
+    by (suc n) = none (suc n)
+
+    same : number r ≡ refusal
+    same = ap number e ∙ by refusal
+
 -- nothing laid over what stood leaves it
 stands : (number refusal : ℕ) (made old new : List ℕ) → number ≡ refusal → new ≡ laid (unlessRefused refusal made []) old → WhenRefused number new old
 stands number refusal made old new is e h = e ∙ ap (λ (l : List ℕ). laid l old) (unless-refused refusal made [] (λ z. h (is ∙ z)))
@@ -85,7 +108,7 @@ written tests refusal line old new r ordered is made = (
   stands (r .number) refusal line old new (ap (λ (a : Answer). a .number) (made .answered)) (made .bytes),
 )
 
--- the numbers of a line, of a position and of a session are those of their tests
+-- the numbers of a line, of a position, of a lane, of an entry and of a session are those of their tests, and a row is told with DONE
 line-number : (k : ℕ) (facts : Facts) (s : State) (program : List ℕ) (position number n : ℕ)
     → lineRefused k facts s program position number n ≡ refused (lineTests k facts s program position number n)
 unfolding lineRefused
@@ -94,6 +117,18 @@ line-number k facts s program position number n = refl
 position-number : (k : ℕ) (journal : List ℕ) → positionRefused k journal ≡ refused (positionTests k journal)
 unfolding positionRefused
 position-number k journal = refl
+
+lane-number : (k : ℕ) (z p : List ℕ) (source predicate size e : ℕ) → laneRefused k z p source predicate size e ≡ refused (laneTests k z p source predicate size e)
+unfolding laneRefused
+lane-number k z p source predicate size e = refl
+
+entry-number : (k : ℕ) (journal : List ℕ) (i : ℕ) → entryRefused k journal i ≡ refused (entryTests k journal i)
+unfolding entryRefused
+entry-number k journal i = refl
+
+row-number : (row : ℕ) → rowTold row .number ≡ DONE
+unfolding rowTold
+row-number row = refl
 
 -- bytes that pass the test of a session are one, and answered so
 session-done : (bytes : List ℕ) → isSession bytes ≡ true → sessionOf bytes .number ≡ DONE
@@ -219,6 +254,22 @@ telling-calls =
       );
       subtotal = λ k z p source predicate size signed a b r is.
           answers (subtotalTests k z p source predicate size a b) _ _ r (subtotal-in-order k z p source predicate size a b) refl is;
+      lane = λ k z p source predicate size signed e r is.
+          tells (laneTests k z p source predicate size e) (laneRefused k z p source predicate size e) (λ (l : Lane). l .number) noLane
+          (laneTold k z p source predicate size signed e) r
+          (lane-in-order k z p source predicate size e)
+          (lane-number k z p source predicate size e)
+          refl
+          (λ n. refl)
+          is;
+      entry = λ k journal i r is.
+          tells (entryTests k journal i) (entryRefused k journal i) (λ (e : Held). e .number) noEntry (entryTold k journal i) r (entry-in-order k journal i)
+          (entry-number k journal i)
+          refl
+          (λ n. refl)
+          is;
+      row = λ row r is.
+          tells (rowTests row) (rowRefused row) (λ (a : About). a .number) noAbout (rowTold row) r (row-in-order row) refl (row-number row) (λ n. refl) is;
       session = λ bytes r is. rw is (
         exactly-refused (sessionTests bytes) (sessionOf bytes .number) (session-in-order bytes) (session-number bytes),
         session-none bytes,

@@ -2,6 +2,8 @@ pub mod Exact
 pub mod Matter
 pub mod Calls
 pub mod Step
+pub mod Shapes
+pub mod Told
 pub mod Cores
 pub mod Anywhere
 pub mod Demand1

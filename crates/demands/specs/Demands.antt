@@ -41,6 +41,10 @@ use Rattle.pane.specs.Drawn.{registerTests, registerRefused, IsPart}
 use Rattle.sums.specs.Panel.{perSegment, noPanel}
 use Rattle.totals.specs.Calls.{panelTests, panelRefused, panelAnswer, subtotalTests, subtotalAnswer}
 use Rattle.totals.specs.Written.{panelWrittenTests, PanelWritten}
+use Rattle.totals.specs.Lane.{laneTests, laneAnswer, noLane}
+use Rattle.totals.specs.declared.Lane.{Lane}
+use Rattle.about.specs.About.{rowTests, aboutAnswer, noAbout}
+use Rattle.about.specs.declared.About.{About}
 use Rattle.names.specs.Named.{leastOut, nameTests, Named}
 use Rattle.assembles.specs.Assembled.{ReadsAs, Assembled}
 use Rattle.meaning.specs.Terms.{negatedWhere, dataBytes, selected}
@@ -48,7 +52,8 @@ use Rattle.meaning.specs.Execute.{targetOf, executed, destinationAfter, integer
 use Rattle.meaning.specs.Theorems.{isExact, answerSigned, isGoverned, governedOf, Agree}
 use Rattle.entries.specs.Layout.{heldOf, positionOf}
 use Rattle.journal.specs.Left.{Core, Buffers}
-use Rattle.journal.specs.Calls.{freshTests, backTests, positionTests, positionAnswer, Freshened}
+use Rattle.journal.specs.Calls.{freshTests, backTests, positionTests, positionAnswer, entryTests, entryAnswer, noEntry, Freshened}
+use Rattle.journal.specs.declared.Held.{Held}
 use Rattle.steps.specs.Calls.{fieldsNow, stepTests, Stepped, Backed}
 use Rattle.steps.specs.Frame.{Kept}
 use Rattle.lines.specs.Line.{lineTests, sessionLineTests, LineWritten, SessionLineWritten}
@@ -119,6 +124,11 @@ pub record TellingCalls : Type 0 where
   pub subtotal : (k : ℕ) (z p : List ℕ) (source predicate size : ℕ) (signed : Bool) (a b : ℕ) (r : Answer)
       → r ≡ subtotalAnswer k z p source predicate size signed a b
       → AnswersExactly (subtotalTests k z p source predicate size a b) r
+  pub lane : (k : ℕ) (z p : List ℕ) (source predicate size : ℕ) (signed : Bool) (e : ℕ) (r : Lane) → r ≡ laneAnswer k z p source predicate size signed e
+      → Exactly (laneTests k z p source predicate size e) (r .number) × WhenRefused (r .number) r (noLane (r .number))
+  pub entry : (k : ℕ) (journal : List ℕ) (i : ℕ) (r : Held) → r ≡ entryAnswer k journal i
+      → Exactly (entryTests k journal i) (r .number) × WhenRefused (r .number) r (noEntry (r .number))
+  pub row : (row : ℕ) (r : About) → r ≡ aboutAnswer row → Exactly (rowTests row) (r .number) × WhenRefused (r .number) r (noAbout (r .number))
   pub session : (bytes : List ℕ) (r : Session) → r ≡ sessionOf bytes
       → Exactly (sessionTests bytes) (r .number) × WhenRefused (r .number) r noSession × (r .number ≡ SESSION ↔ (IsSession bytes → ⊥))
 
