@@ -1,6 +1,6 @@
 use ghishmadul::{
-    assemble, back, fresh, journal_bytes, position, predicate_file_bytes, step, vector_file_bytes,
-    Facts, Refusal,
+    assemble, back, fresh, journal_bytes, position, predicate_file_bytes, read_entry, step,
+    vector_file_bytes, Facts, Refusal, Vector,
 };
 
 fn main() -> Result<(), Refusal> {
@@ -30,6 +30,12 @@ fn main() -> Result<(), Refusal> {
     println!("a third step: {:?}", third);
     assert_eq!(third, Err(Refusal::End));
     assert_eq!(position(k, &journal), Ok(2));
+
+    // What the first step found in its destination: the ones that a step back restores.
+    let entry = read_entry(k, &journal, 0)?;
+    println!("before its step {} began {:?}", entry.target, &entry.old[..4]);
+    assert_eq!((entry.target, entry.old), (Vector::Z1.into(), &[1; 32][..]));
+    assert_eq!(read_entry(k, &journal, 2), Err(Refusal::Range));
 
     // Back: Z1 is what it was.
     back(k, &mut z, &p, &mut journal)?;

@@ -69,8 +69,9 @@ fn sets_of_a_row(row: usize) -> String {
     let sets = (0..32).filter(|&byte| {
         let facts = Facts::from_byte(byte);
         let fields = decode(word, facts);
-        assert_eq!(fields, reference::decode(word, facts));
-        fields.map(|fields| fields.row) == Ok(row)
+        let number = fields.map(|fields| fields.row.number());
+        assert_eq!(number, reference::decode(word, facts).map(|fields| fields.row));
+        number == Ok(row)
     });
     format!("row {} under{}\n", row, sets.map(|byte| format!(" {}", byte)).collect::<String>())
 }
