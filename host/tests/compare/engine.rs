@@ -52,20 +52,22 @@ impl Values for reference::Fields {
 }
 
 impl Values for ghishmadul::Fields {
-    /// Which fields there are is held to the reference too.
+    /// A field that is there and should not be, or is not and should, has a number that none has.
     fn values(&self) -> Numbers {
         let ghishmadul::Fields { row, size, n, d, g, m, q } = *self;
         let about = reference::read_row(row.number()).expect("a row");
-        let there = [about.has_g, about.has_m, about.has_q];
-        assert_eq!([g.is_some(), m.is_some(), q.is_some()], there, "the fields of {}", row);
+        let field = |number: Option<usize>, there: bool| match number {
+            _ if number.is_some() != there => usize::MAX,
+            _ => number.unwrap_or(0),
+        };
         reference::Fields {
             row: row.number(),
             size: size.number(),
             n: n.number(),
             d: d.number(),
-            g: g.map_or(0, Predicate::number),
-            m: m.map_or(0, Vector::number),
-            q: q.map_or(0, usize::from),
+            g: field(g.map(Predicate::number), about.has_g),
+            m: field(m.map(Vector::number), about.has_m),
+            q: field(q.map(usize::from), about.has_q),
         }
         .values()
     }
