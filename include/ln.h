@@ -225,6 +225,17 @@ enum ln_fact {
 #define LN_LANES(k, size) (LN_VECTOR_BYTES(k) >> (size))
 #define LN_LANE_BIT(e, size) (LN_CAST(size_t, e) << (size))
 
+/* The size of lanes that have so many bytes, 1, 2, 4 or 8; for every other number one that is refused. */
+static inline size_t ln_size_of(uint64_t bytes)
+{
+    size_t size = 0;
+
+    while (size <= LN_MOST_SIZE && LN_LANE_BYTES(size) != bytes) {
+        size++;
+    }
+    return size;
+}
+
 /* Sizes of what is lent. */
 #define LN_WORD_BYTES 4
 #define LN_MOST_WORDS 256
@@ -473,12 +484,13 @@ struct ln_place ln_register_place(size_t k, const uint8_t *z, size_t z_len, cons
 /* A lane of the vector register `source` at a size, and whether `predicate`, P0 to P15, makes it active.
  * `is_signed` is 0 for an unsigned lane; every other number asks for a signed one.
  *
- * Which size to ask with: ln_read_row tells at which widths a row reads its lanes, and a value is asked at
- * that. For saddv, uaddv and addqv `active` is asked at the same size. But sadalp and uadalp read lanes of
- * half the width, and their predicate governs the lanes of the destination: ask for `active` with the word's
- * own size and the destination's lane e, which holds for the source's lanes 2e and 2e + 1 together. With
- * the source's half width other bits would be asked, which do not matter. saddlv, uaddlv and the rows from
- * LN_SADDLB on have no predicate: every lane that they read counts, and `active` says nothing of it.
+ * Which size to ask with: ln_read_row tells how many bytes the lanes have that a row reads, ln_size_of their
+ * size, and a value is asked at that. For saddv, uaddv and addqv `active` is asked at the same size. But
+ * sadalp and uadalp read lanes of half the width, and their predicate governs the lanes of the destination:
+ * ask for `active` with the word's own size and the destination's lane e, which holds for the source's lanes
+ * 2e and 2e + 1 together. With the source's half width other bits would be asked, which do not matter.
+ * saddlv, uaddlv and the rows from LN_SADDLB on have no predicate: every lane that they read counts, and
+ * `active` says nothing of it.
  * LN_LENGTH, LN_FILE; LN_RANGE: `source` over 31, `predicate` over 15, `size` over 3, or `lane` not below the
  * number of lanes. */
 struct ln_lane ln_read_lane(size_t k, const uint8_t *z, size_t z_len, const uint8_t *p, size_t p_len,

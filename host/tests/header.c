@@ -178,6 +178,9 @@ int main(void)
     say("LANES(4, 3)", LN_LANES(4, 3));
     say("LANE_BYTES(3)", LN_LANE_BYTES(3));
     say("LANE_BIT(5, 2)", LN_LANE_BIT(5, 2));
+    for (number = 0; number <= 9; number++) {
+        say("size of bytes", ln_size_of(number));
+    }
     say("VERSION", LN_VERSION);
     say("version", ln_version());
     for (number = LN_LENGTH; number <= LN_SESSION + 1; number++) {

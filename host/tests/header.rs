@@ -28,10 +28,13 @@ fn the_header_has_the_same_numbers() {
         ("LANES(4, 3)", lane_count(4, Size::D)),
         ("LANE_BYTES(3)", Size::D.bytes()),
         ("LANE_BIT(5, 2)", 5 * Size::S.bytes()),
-        ("VERSION", VERSION as usize),
-        ("version", version() as usize),
     ];
-    let sizes = ends.into_iter().chain(lengths).chain(sizes);
+    let of_bytes = (0..10).map(|bytes| {
+        let size = Size::ALL.into_iter().position(|size| size.bytes() == bytes);
+        ("size of bytes", size.unwrap_or(Size::ALL.len()))
+    });
+    let versions = [("VERSION", VERSION as usize), ("version", version() as usize)];
+    let sizes = ends.into_iter().chain(lengths).chain(sizes).chain(of_bytes).chain(versions);
     let sizes = sizes.map(|(name, value)| format!("{} {}\n", name, value));
     let after_the_last = Refusal::ALL.len() as u64 + 1;
     let refusals = Refusal::ALL.iter().copied().chain([Refusal::Unlisted(after_the_last)]);
