@@ -14,24 +14,7 @@ fn main() -> Result<(), Refusal> {
     assert_eq!(refused, NotAssembled::Lacking { word, need });
     assert_eq!(assemble("saddlb z3.b, z1.b, z1.b", Facts::SVE), Err(NotAssembled::NoWord));
 
-    // The same program on some cores: how far it comes, and why it stops there.
-    let words = [0x2E30_3822, 0x0400_2020, word, 0x0405_2024];
-    let cores = [
-        ("none of them", Facts::NONE, 1),
-        ("SVE", Facts::SVE, 2),
-        ("SVE2", Facts::SVE2, 3),
-        ("SVE2.1", Facts::SVE2P1, 4),
-        ("SME", Facts::SME_ONLY, 3),
-        ("SME2.1", Facts::SME2P1, 4),
-        ("SVE2 and no SVE", Facts { sve2: true, ..Facts::NONE }, 1),
-    ];
-    for (name, facts, steps) in cores {
-        let mut machine = Machine::new(1, facts, &words)?;
-        print!("a core with {}:\n{}", name, machine.walk());
-        assert_eq!((machine.facts(), machine.position()), (facts, steps));
-        let last = if steps < words.len() { Refusal::Undefined } else { Refusal::End };
-        assert_eq!(machine.step(), Err(last));
-    }
+    walk_on_some_cores()?;
 
     // Facts as a text, which can be read back.
     assert_eq!(Facts::SVE2.to_string(), "sve sve2");
@@ -41,5 +24,28 @@ fn main() -> Result<(), Refusal> {
     // A byte of facts, as in a session of version 2.
     assert_eq!(Facts::SVE2.byte(), 0b00011);
     assert_eq!(Facts::from_byte(0b01000), Facts::SME_ONLY);
+    Ok(())
+}
+
+/// The same program on some cores: how far it comes, and why it stops there.
+fn walk_on_some_cores() -> Result<(), Refusal> {
+    let words = [0x2E30_3822, 0x0400_2020, 0x4541_0023, 0x0405_2024];
+    let cores = [
+        (Facts::NONE, 1),
+        (Facts::SVE, 2),
+        (Facts::SVE2, 3),
+        (Facts::SVE2P1, 4),
+        (Facts::SME_ONLY, 3),
+        (Facts::SME2P1, 4),
+        (Facts { sve2: true, ..Facts::NONE }, 1),
+    ];
+    for (facts, steps) in cores {
+        let mut machine = Machine::new(1, facts, &words)?;
+        print!("a core with {}:\n{}", facts, machine.walk());
+        assert_eq!((machine.facts(), machine.position()), (facts, steps));
+        let last = if steps < words.len() { Refusal::Undefined } else { Refusal::End };
+        assert_eq!(machine.step(), Err(last));
+        assert_eq!(machine.lacks(steps).is_some(), last == Refusal::Undefined);
+    }
     Ok(())
 }

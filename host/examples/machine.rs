@@ -1,5 +1,8 @@
 use ghishmadul::{assemble, Facts, Lanes, Machine, Predicate, Refusal, Row, Size, Vector};
 
+/// Sixteen channels of 16 bits.
+const CHANNELS: Lanes = Lanes { source: Vector::Z1, predicate: Predicate::P0, size: Size::H };
+
 fn main() -> Result<(), Refusal> {
     // A core with SVE2, registers of 32 bytes, and a program of two words.
     let facts = Facts::SVE2;
@@ -7,7 +10,7 @@ fn main() -> Result<(), Refusal> {
     let words = [assemble(texts[0], facts)?, assemble(texts[1], facts)?];
     let mut machine = Machine::new(2, facts, &words)?;
 
-    // Sixteen channels of 16 bits in Z1: 100, 99 and so on. P0 leaves channel 3 off.
+    // The channels in Z1 are 100, 99 and so on. P0 leaves channel 3 off.
     for channel in 0..16 {
         machine.put_lane(Vector::Z1, Size::H, channel, 100 - channel as u64)?;
         machine.put_active(Predicate::P0, Size::H, channel, channel != 3)?;
@@ -23,23 +26,7 @@ fn main() -> Result<(), Refusal> {
     assert_eq!(machine.position(), 2);
     assert_eq!(machine.step(), Err(Refusal::End));
 
-    // What the pane draws beside it: the lanes, and the sum beneath them.
-    let channels = Lanes { source: Vector::Z1, predicate: Predicate::P0, size: Size::H };
-    for (number, lane) in machine.lanes(channels, true).enumerate() {
-        println!(
-            "channel {}: {}, {}",
-            number,
-            lane.signed(),
-            if lane.active { "on" } else { "off" }
-        );
-        assert_eq!(lane.active, number != 3);
-    }
-    let sum = machine.subtotal(channels, true, 0..16)?;
-    println!("the sum beneath the lanes is {}", sum);
-    assert_eq!(sum, 1480 - 97);
-    for (row, bytes) in machine.panel(channels)?[..2].iter().enumerate() {
-        println!("segment {}: {:02x?}", row, bytes);
-    }
+    draw(&machine)?;
 
     // What the last step's destination held before it.
     let last = machine.last_entry().expect("a step was made");
@@ -55,7 +42,22 @@ fn main() -> Result<(), Refusal> {
     assert_eq!(Machine::from_session(&session)?, machine);
 
     // A refusal has a name, a number and a sentence.
-    let refusal = machine.lane(channels, true, 16).unwrap_err();
+    let refusal = machine.lane(CHANNELS, true, 16).unwrap_err();
     println!("lane 16: {}: {}", refusal.name(), refusal);
+    Ok(())
+}
+
+/// What the pane draws beside it: the lanes, the sum beneath them, and the panel.
+fn draw(machine: &Machine) -> Result<(), Refusal> {
+    for (number, lane) in machine.lanes(CHANNELS, true).enumerate() {
+        println!("channel {}: {}, active: {}", number, lane.signed(), lane.active);
+        assert_eq!(lane.active, number != 3);
+    }
+    let sum = machine.subtotal(CHANNELS, true, 0..16)?;
+    println!("the sum beneath the lanes is {}", sum);
+    assert_eq!(sum, 1480 - 97);
+    for (row, bytes) in machine.panel(CHANNELS)?[..2].iter().enumerate() {
+        println!("segment {}: {:02x?}", row, bytes);
+    }
     Ok(())
 }

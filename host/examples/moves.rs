@@ -26,9 +26,7 @@ fn main() -> Result<(), Refusal> {
     println!("after a step Z1 begins {:?}", &z[32..36]);
     assert_eq!(z[32], 31);
     step(k, facts, &mut z, &p, &program, &mut journal)?;
-    let third = step(k, facts, &mut z, &p, &program, &mut journal);
-    println!("a third step: {:?}", third);
-    assert_eq!(third, Err(Refusal::End));
+    assert_eq!(step(k, facts, &mut z, &p, &program, &mut journal), Err(Refusal::End));
     assert_eq!(position(k, &journal), Ok(2));
 
     // What the first step found in its destination: the ones that a step back restores.
@@ -42,9 +40,7 @@ fn main() -> Result<(), Refusal> {
     back(k, &mut z, &p, &mut journal)?;
     println!("after two steps back Z1 begins {:?}", &z[32..36]);
     assert!(z[32..64].iter().all(|&byte| byte == 1));
-    let third = back(k, &mut z, &p, &mut journal);
-    println!("a third step back: {:?}", third);
-    assert_eq!(third, Err(Refusal::Empty));
+    assert_eq!(back(k, &mut z, &p, &mut journal), Err(Refusal::Empty));
     assert_eq!(position(k, &journal), Ok(0));
     Ok(())
 }

@@ -124,31 +124,46 @@ static uint64_t step(uint8_t facts, const uint8_t *program)
     return ln_step(K, facts, z, sizeof z, p, sizeof p, program, LN_WORD_BYTES, journal, sizeof journal);
 }
 
-int main(void)
+/* A program of one word, its lowest byte first. A core with SVE2 alone does not have it. */
+static uint64_t make_program(uint8_t *program)
 {
     static const char text[] = "addqv v0.8h, p0, z1.h";
+    struct ln_answer answer = ln_assemble((const uint8_t *)text, sizeof text - 1, FACTS);
+    size_t byte;
+
+    told("assemble on SVE2", ln_assemble((const uint8_t *)text, sizeof text - 1, LN_SVE | LN_SVE2).number);
+    for (byte = 0; byte < LN_WORD_BYTES; byte++) {
+        program[byte] = (uint8_t)(answer.value >> 8 * byte);
+    }
+    show_word((uint32_t)answer.value, LN_SVE | LN_SVE2);
+    show_word((uint32_t)answer.value, FACTS);
+    return told("assemble", answer.number);
+}
+
+/* All of it as a session, which bash run walks once it is in a file. */
+static void keep(const uint8_t *program)
+{
     static uint8_t session[LN_SESSION_BYTES(K, 1)];
+    struct ln_answer answer = ln_write_session(session, sizeof session, K, FACTS, z, sizeof z, p, sizeof p, program,
+                                               LN_WORD_BYTES);
+
+    told("session", answer.number);
+    printf("%d bytes\n", (int)answer.value);
+}
+
+int main(void)
+{
     uint8_t program[LN_WORD_BYTES], line[LN_LONGEST_LINE];
     struct ln_answer answer;
-    size_t byte;
 
     if (ln_version() != LN_VERSION) {
         printf("the library is not of this header's version\n");
         return 1;
     }
     set_channels();
-
-    /* A program of one word, its lowest byte first. A core with SVE2 alone does not have it. */
-    told("assemble on SVE2", ln_assemble((const uint8_t *)text, sizeof text - 1, LN_SVE | LN_SVE2).number);
-    answer = ln_assemble((const uint8_t *)text, sizeof text - 1, FACTS);
-    if (told("assemble", answer.number) != LN_DONE) {
+    if (make_program(program) != LN_DONE) {
         return 1;
     }
-    for (byte = 0; byte < LN_WORD_BYTES; byte++) {
-        program[byte] = (uint8_t)(answer.value >> 8 * byte);
-    }
-    show_word((uint32_t)answer.value, LN_SVE | LN_SVE2);
-    show_word((uint32_t)answer.value, FACTS);
 
     told("fresh", ln_fresh(K, journal, sizeof journal));
     show_journal();
@@ -164,10 +179,6 @@ int main(void)
     show_journal();
     show_z0();
     show_panel();
-
-    /* All of it as a session, which bash run walks. */
-    answer = ln_write_session(session, sizeof session, K, FACTS, z, sizeof z, p, sizeof p, program, sizeof program);
-    told("session", answer.number);
-    printf("%d bytes\n", (int)answer.value);
+    keep(program);
     return 0;
 }

@@ -98,7 +98,7 @@ pub fn write_session(
     let [low, high] = (words as u16).to_le_bytes();
     let header = [b'L', b'N', b'W', version, above, k as u8, low, high, facts.byte()];
     let mut rest = out;
-    for part in [&header, z, p, program] {
+    for part in [&header[..], z, p, program] {
         let (front, after) = rest.split_at_mut(part.len());
         front.copy_from_slice(part);
         rest = after;

@@ -153,9 +153,10 @@ static void say_accepted(void)
     }
 }
 
-int main(void)
+/* The sizes of the machine and of what is lent. */
+static void say_sizes(void)
 {
-    uint64_t number;
+    uint64_t bytes;
 
     say("LEAST_K", LN_LEAST_K);
     say("MOST_K", LN_MOST_K);
@@ -178,9 +179,16 @@ int main(void)
     say("LANES(4, 3)", LN_LANES(4, 3));
     say("LANE_BYTES(3)", LN_LANE_BYTES(3));
     say("LANE_BIT(5, 2)", LN_LANE_BIT(5, 2));
-    for (number = 0; number <= 9; number++) {
-        say("size of bytes", ln_size_of(number));
+    for (bytes = 0; bytes <= 9; bytes++) {
+        say("size of bytes", ln_size_of(bytes));
     }
+}
+
+int main(void)
+{
+    uint64_t number;
+
+    say_sizes();
     say("VERSION", LN_VERSION);
     say("version", ln_version());
     for (number = LN_LENGTH; number <= LN_SESSION + 1; number++) {

@@ -3,8 +3,8 @@
 
 use ghishmadul::*;
 
-#[test]
-fn the_header_has_the_same_numbers() {
+/// The sizes of the machine and of what is lent.
+fn sizes() -> impl Iterator<Item = (&'static str, usize)> {
     let ends = [("LEAST_K", LEAST_K), ("MOST_K", MOST_K)];
     let lengths = LENGTHS.iter().map(|&k| ("LENGTHS", k));
     let accepted = (0..=MOST_K + 1).filter(|&k| fresh(k, &mut [0; 8]).is_ok());
@@ -33,15 +33,19 @@ fn the_header_has_the_same_numbers() {
         let size = Size::ALL.into_iter().position(|size| size.bytes() == bytes);
         ("size of bytes", size.unwrap_or(Size::ALL.len()))
     });
+    ends.into_iter().chain(lengths).chain(sizes).chain(of_bytes)
+}
+
+#[test]
+fn the_header_has_the_same_numbers() {
+    let said = |(name, value)| format!("{} {}\n", name, value);
     let versions = [("VERSION", VERSION as usize), ("version", version() as usize)];
-    let sizes = ends.into_iter().chain(lengths).chain(sizes).chain(of_bytes).chain(versions);
-    let sizes = sizes.map(|(name, value)| format!("{} {}\n", name, value));
+    let sizes = sizes().chain(versions).map(said);
     let after_the_last = Refusal::ALL.len() as u64 + 1;
     let refusals = Refusal::ALL.iter().copied().chain([Refusal::Unlisted(after_the_last)]);
     let names = refusals.map(|refusal| format!("{} {}\n", refusal.name(), refusal.number()));
     let rows = Row::ALL.iter().map(|row| (row.name(), row.number()));
     let rows = rows.map(|(name, number)| format!("{} {}\n", name.to_uppercase(), number));
-    let said = |(name, value)| format!("{} {}\n", name, value);
     let needs = (0..reference::TABLE.len()).map(sets_of_a_row);
     let line = [line_of_the_greatest_number()];
     let lines: String = sizes
@@ -72,7 +76,7 @@ fn what_rows_are() -> impl Iterator<Item = String> {
         let flags = [told.signed, told.has_g, told.has_m, told.has_q, told.reads_destination];
         let flags = flags.map(usize::from).to_vec();
         let widths = [told.n_bytes, told.m_bytes, told.d_bytes].concat();
-        let numbers = [&[0], &flags[..], &[told.need.into()], &widths].concat();
+        let numbers = [&[0][..], &flags[..], &[told.need.into()], &widths].concat();
         format!("{}{}\n", row, numbers.iter().map(|n| format!(" {}", n)).collect::<String>())
     });
     let past = format!("no row {}{}\n", Refusal::Range.number(), " 0".repeat(18));
