@@ -66,10 +66,10 @@
  * With LN_ALL_FACTS no word is refused for want of a fact. A call that takes facts looks at the bits of
  * enum ln_fact alone: the three higher bits of the byte do not matter there and are not refused.
  *
- * Which of the two causes an LN_UNDEFINED has, ln_decode tells when it is asked again with LN_ALL_FACTS. Is
- * it LN_DONE then, the facts lack what the row needs, and ln_read_row(fields.row).need has the facts of
- * which one is enough; else the size is not allowed, whatever the core is. For a text that is LN_TEXT,
- * ln_assemble with LN_ALL_FACTS tells in the same way whether a word has it.
+ * Which of the two causes an LN_UNDEFINED has is told by ln_decode with LN_ALL_FACTS. If that is LN_DONE, the
+ * facts lack what the row needs, and ln_read_row of the row that was told has in `need` the facts of which
+ * one is enough. If it is LN_UNDEFINED again, the size is not allowed, whatever the core is. In the same way
+ * ln_assemble with LN_ALL_FACTS tells whether a text that is LN_TEXT has a word on some core.
  *
  * The facts should stay the same from one step of a journal to the next: that steps forward and back
  * leave what a plain walk leaves is promised for unchanged facts. A step back needs no facts and is never

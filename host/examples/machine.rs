@@ -27,6 +27,7 @@ fn main() -> Result<(), Refusal> {
     assert_eq!(machine.step(), Err(Refusal::End));
 
     draw(&machine)?;
+    draw_pairs(&machine)?;
 
     // What the last step's destination held before it.
     let last = machine.last_entry().expect("a step was made");
@@ -59,5 +60,15 @@ fn draw(machine: &Machine) -> Result<(), Refusal> {
     for (row, bytes) in machine.panel(CHANNELS)?[..2].iter().enumerate() {
         println!("segment {}: {:02x?}", row, bytes);
     }
+    Ok(())
+}
+
+/// sadalp's predicate governs the lanes of its destination, which are twice as wide: channels 2 and 3 go into
+/// lane 1 together where the bit of channel 2 is set, and that of channel 3 does not matter.
+fn draw_pairs(machine: &Machine) -> Result<(), Refusal> {
+    let pairs = Lanes { source: Vector::Z2, size: Size::S, ..CHANNELS };
+    let lane = machine.lane(pairs, true, 1)?;
+    println!("lane 1 of the pairs: {}, active: {}", lane.signed(), lane.active);
+    assert_eq!((lane.signed(), lane.active), (98 + 97, true));
     Ok(())
 }

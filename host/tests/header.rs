@@ -140,6 +140,7 @@ fn sets_of_a_row(row: usize) -> String {
         let fields = decode(word, facts);
         let number = fields.map(|fields| fields.row.number());
         assert_eq!(number, reference::decode(word, facts).map(|fields| fields.row));
+        assert_eq!(number.is_ok(), Row::ALL[row].about().is_met_by(facts));
         number == Ok(row)
     });
     format!("row {} under{}\n", row, sets.map(|byte| format!(" {}", byte)).collect::<String>())

@@ -103,8 +103,14 @@ impl Beside {
 
     fn back(&mut self) {
         let k = self.machine.k();
+        let last = self.machine.last_entry().map(|entry| (entry.target, entry.old.to_vec()));
         let answer = self.machine.back();
         assert_eq!(answer, reference::back(k, &mut self.z, &self.p, &mut self.journal));
+        // The last entry is what is restored, and there is one exactly where a step is taken back.
+        assert_eq!(answer.is_ok(), last.is_some());
+        if let Some((target, old)) = last {
+            assert_eq!(self.machine.register(target), old);
+        }
         self.position -= usize::from(answer.is_ok());
     }
 
@@ -134,6 +140,10 @@ impl Beside {
             for lane in [0, many - 1, many] {
                 assert_eq!(machine.lane(lanes, signed, lane), all[lane]);
             }
+            let active = machine.lanes(lanes, signed).filter(|lane| lane.active);
+            let sum = active.fold(0, |sum: u64, lane| sum.wrapping_add(lane.value));
+            let governed = if predicate.can_govern() { Ok(sum) } else { Err(Refusal::Range) };
+            assert_eq!(machine.subtotal(lanes, signed, 0..many), governed);
         }
         assert_eq!(machine.register(source), &z[asked.source * 16 * k..][..16 * k]);
         assert_eq!(machine.register(predicate), &p[asked.predicate * 2 * k..][..2 * k]);
