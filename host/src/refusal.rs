@@ -6,6 +6,15 @@ use std::fmt;
 /// [`Refusal::Out`] is tested before [`Refusal::Unknown`].
 ///
 /// Later versions may have more, so a `match` needs an arm for the others.
+///
+/// ```
+/// use ghishmadul::{fresh, Refusal};
+///
+/// let refusal = fresh(3, &mut [0; 8]).unwrap_err();
+/// assert_eq!(refusal, Refusal::Length);
+/// assert_eq!((refusal.number(), refusal.name()), (1, "LENGTH"));
+/// assert_eq!(refusal.sentence(), "the length is not 1, 2, 4, 8 or 16");
+/// ```
 #[derive(Clone, Copy, Debug, PartialEq, Eq, Hash)]
 #[non_exhaustive]
 pub enum Refusal {
