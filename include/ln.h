@@ -421,7 +421,8 @@ struct ln_session {
     uint64_t facts;
 };
 
-/* The version of the library: LN_VERSION, if it belongs to this header. */
+/* The version of the library: LN_VERSION, if it belongs to this header. A library from before version 7 does
+ * not have this call, and a program that makes it does not link. */
 uint64_t ln_version(void);
 
 /* The row and the fields of a word, on a core with these facts.
