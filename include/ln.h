@@ -1,5 +1,32 @@
 /* The engine of a vector-code viewer, for C and C++: decode, name, assemble, execute and un-execute
- * twenty-three of Arm's A64 adding and subtracting instructions. Link with libln.a (x86-64 Linux).
+ * twenty-three of Arm's A64 adding and subtracting instructions. A whole program, which steps one word and
+ * prints "the call is done: 1000":
+ *
+ *     #include "ln.h"
+ *     #include <stdio.h>
+ *     static uint8_t z[LN_VECTOR_FILE_BYTES(1)], p[LN_PREDICATE_FILE_BYTES(1)];
+ *     static uint8_t journal[LN_JOURNAL_BYTES(1, 1)];
+ *     int main(void) {
+ *         const uint8_t program[] = {0x20, 0x20, 0x40, 0x04}; // the word 04402020: saddv d0, p0, z1.h
+ *         ln_put_lane(1, z, sizeof z, 1, 1, 7, 1000);         // 1000 into lane 7 of Z1, of two bytes
+ *         ln_put_active(1, p, sizeof p, 0, 1, 7, 1);          // P0 makes it active, and no other lane
+ *         ln_fresh(1, journal, sizeof journal);
+ *         uint64_t number =
+ *             ln_step(1, LN_SVE, z, sizeof z, p, sizeof p, program, 4, journal, sizeof journal);
+ *         struct ln_lane sum = ln_read_lane(1, z, sizeof z, p, sizeof p, 0, 0, 3, 1, 0); // d0
+ *         printf("%s: %lu\n", ln_refusal_text(number), (unsigned long)sum.value);
+ *     }
+ *
+ * host/examples/pane.c is a longer one: sixteen channels are drawn, stepped and taken back.
+ *
+ * Link with libln.a, which is code for x86-64 Linux: from the repository's folder
+ *
+ *     gcc -Iinclude program.c target/staticlib/libln.a && ./a.out
+ *
+ * On another processor a compiler for x86-64 builds the program and an emulator runs it. On aarch64 Linux
+ * with Debian's packages gcc-x86-64-linux-gnu and qemu-user that is
+ *
+ *     x86_64-linux-gnu-gcc -static -Iinclude program.c target/staticlib/libln.a && qemu-x86_64 ./a.out
  *
  * Calls. No value has to be checked before a call: every call ends for every k, number, facts, length
  * and content of the lent bytes, with LN_DONE or with a refusal. A refusal gives zero in place of every
@@ -38,6 +65,11 @@
  * never make a word LN_UNKNOWN, and what an accepted word does and how it reads does not depend on them.
  * With LN_ALL_FACTS no word is refused for want of a fact. A call that takes facts looks at the bits of
  * enum ln_fact alone: the three higher bits of the byte do not matter there and are not refused.
+ *
+ * Which of the two causes an LN_UNDEFINED has is told by ln_decode with LN_ALL_FACTS. If that is LN_DONE, the
+ * facts lack what the row needs, and ln_read_row of the row that was told has in `need` the facts of which
+ * one is enough. If it is LN_UNDEFINED again, the size is not allowed, whatever the core is. In the same way
+ * ln_assemble with LN_ALL_FACTS tells whether a text that is LN_TEXT has a word on some core.
  *
  * The facts should stay the same from one step of a journal to the next: that steps forward and back
  * leave what a plain walk leaves is promised for unchanged facts. A step back needs no facts and is never
@@ -91,8 +123,16 @@
 extern "C" {
 #endif
 
-/* The version of this header and its library. It grows with every change that a program can notice. */
-#define LN_VERSION 6
+/* A value as another type: C's own cast, which C++ compilers can be told to warn of, or C++'s. */
+#ifdef __cplusplus
+#define LN_CAST(type, value) static_cast<type>(value)
+#else
+#define LN_CAST(type, value) ((type)(value))
+#endif
+
+/* The version of this header. It grows with every change that a program can notice; ln_version tells that of
+ * the library which the program was linked with. */
+#define LN_VERSION 7
 
 /* The versions of the stored forms; of a session the newest, and the former, which is read too. */
 #define LN_JOURNAL_VERSION 1
@@ -109,12 +149,13 @@ enum ln_number {
     LN_JOURNAL = 5,   /* journal not well formed */
     LN_END = 6,       /* the place is not below the number of words */
     LN_UNKNOWN = 7,   /* no row of the table matches the word */
-    LN_UNDEFINED = 8, /* a row matches; its size is not allowed, or the facts lack what it needs */
+    LN_UNDEFINED = 8, /* a row matches; its size is not allowed, or the facts lack what it needs: which of
+                         the two, ln_decode with LN_ALL_FACTS tells, as is said under Facts above */
     LN_FULL = 9,      /* no further entry fits into the journal */
     LN_EMPTY = 10,    /* back with count 0 */
     LN_OUT = 11,      /* output too short */
     LN_TEXT = 12,     /* not one of the accepted texts, or one whose word the facts do not accept */
-    LN_RANGE = 13,    /* a register, predicate, size or range of lanes that is not there */
+    LN_RANGE = 13,    /* a register, predicate, size, lane, range of lanes, entry or row that is not there */
     LN_SESSION = 14   /* not a session */
 };
 
@@ -150,6 +191,9 @@ enum ln_row {
     LN_USUBWT = 22
 };
 
+/* How many rows there are. */
+#define LN_ROWS 23
+
 /* The facts about a core, to be joined by |. A row that names two needs one of them; rows LN_SADDLV and
  * LN_UADDLV need none. None implies another: LN_SVE2 without LN_SVE does not give a core saddv. */
 enum ln_fact {
@@ -170,16 +214,27 @@ enum ln_fact {
 #define LN_VECTOR_REGISTERS 32
 #define LN_PREDICATE_REGISTERS 16
 #define LN_GOVERNING_REGISTERS 8
-#define LN_VECTOR_BYTES(k) (16 * (size_t)(k))
-#define LN_PREDICATE_BYTES(k) (2 * (size_t)(k))
+#define LN_VECTOR_BYTES(k) (16 * LN_CAST(size_t, k))
+#define LN_PREDICATE_BYTES(k) (2 * LN_CAST(size_t, k))
 #define LN_VECTOR_FILE_BYTES(k) (LN_VECTOR_REGISTERS * LN_VECTOR_BYTES(k))
 #define LN_PREDICATE_FILE_BYTES(k) (LN_PREDICATE_REGISTERS * LN_PREDICATE_BYTES(k))
 
 /* Lanes: how many bytes one has, how many a vector has, and the predicate bit of lane e. */
 #define LN_MOST_SIZE 3
-#define LN_LANE_BYTES(size) ((size_t)1 << (size))
+#define LN_LANE_BYTES(size) (LN_CAST(size_t, 1) << (size))
 #define LN_LANES(k, size) (LN_VECTOR_BYTES(k) >> (size))
-#define LN_LANE_BIT(e, size) ((size_t)(e) << (size))
+#define LN_LANE_BIT(e, size) (LN_CAST(size_t, e) << (size))
+
+/* The size of lanes that have so many bytes, 1, 2, 4 or 8; for every other number one that is refused. */
+static inline size_t ln_size_of(uint64_t bytes)
+{
+    size_t size = 0;
+
+    while (size <= LN_MOST_SIZE && LN_LANE_BYTES(size) != bytes) {
+        size++;
+    }
+    return size;
+}
 
 /* Sizes of what is lent. */
 #define LN_WORD_BYTES 4
@@ -188,7 +243,7 @@ enum ln_fact {
 #define LN_LEAST_JOURNAL_BYTES 8
 #define LN_MOST_JOURNAL_BYTES 65536
 #define LN_ENTRY_BYTES(k) (1 + LN_VECTOR_BYTES(k))
-#define LN_JOURNAL_BYTES(k, entries) (LN_JOURNAL_HEADER_BYTES + (size_t)(entries) * LN_ENTRY_BYTES(k))
+#define LN_JOURNAL_BYTES(k, entries) (LN_JOURNAL_HEADER_BYTES + LN_CAST(size_t, entries) * LN_ENTRY_BYTES(k))
 #define LN_LEAST_TEXT_OUT 32
 #define LN_LONGEST_TEXT 26
 #define LN_LONGEST_LINE 546
@@ -197,6 +252,9 @@ enum ln_fact {
 #define LN_PANEL_BYTES 256
 #define LN_SESSION_HEADER_BYTES 9
 #define LN_FORMER_SESSION_HEADER_BYTES 8
+#define LN_SESSION_BYTES(k, words)                                                                        \
+    (LN_SESSION_HEADER_BYTES + LN_VECTOR_FILE_BYTES(k) + LN_PREDICATE_FILE_BYTES(k) +                     \
+     LN_WORD_BYTES * LN_CAST(size_t, words))
 
 /* The most bytes of stack that ln_step takes below its caller, with its return address and all that it
  * calls. It is measured, on the library's own code, and not proved. */
@@ -241,6 +299,42 @@ static inline const char *ln_refusal_name(uint64_t number)
     }
 }
 
+/* What an answer number says, in a sentence. */
+static inline const char *ln_refusal_text(uint64_t number)
+{
+    static const char *const texts[] = {
+        "the call is done",
+        "the length is not 1, 2, 4, 8 or 16",
+        "the vector file has not 512k bytes, or the predicate file not 32k",
+        "the program is not whole words, or has over 256 of them",
+        "the journal has under 8 or over 65,536 bytes",
+        "the journal is not well formed",
+        "the program has no word at this place",
+        "no row of the table matches the word",
+        "a row matches the word, but the size is not allowed or the facts lack what the row needs",
+        "no further entry fits into the journal",
+        "the journal holds no step to take back",
+        "the output is too short",
+        "no word that these facts accept has this text",
+        "there is no such register, predicate, size, lane, range of lanes, entry or row",
+        "the bytes are not a session",
+    };
+
+    return number < sizeof texts / sizeof *texts ? texts[number] : "no answer has this number";
+}
+
+/* The name of a row, as a word's text begins with it: "saddv" and so on; "no row" past the last. */
+static inline const char *ln_row_name(uint64_t row)
+{
+    static const char *const names[] = {
+        "saddv",  "uaddv",  "addqv",  "saddlv", "uaddlv", "sadalp", "uadalp", "saddlb",
+        "saddlt", "uaddlb", "uaddlt", "ssublb", "ssublt", "usublb", "usublt", "saddwb",
+        "saddwt", "uaddwb", "uaddwt", "ssubwb", "ssubwt", "usubwb", "usubwt",
+    };
+
+    return row < LN_ROWS ? names[row] : "no row";
+}
+
 /* A number and, if it is LN_DONE, a value. */
 struct ln_answer {
     uint64_t number;
@@ -276,6 +370,45 @@ struct ln_word {
     uint64_t at;
 };
 
+/* A lane of a vector register: its value at its sign, extended to 64 bits; whether it is active, 1 or 0; its
+ * first byte, counted in the vector file; and the bit that makes it active, counted in its predicate
+ * register: bit `bit` % 8 of its byte `bit` / 8. */
+struct ln_lane {
+    uint64_t number;
+    uint64_t value;
+    uint64_t active;
+    uint64_t start;
+    uint64_t bit;
+};
+
+/* An entry of a journal: the number of the register that its step wrote, 0 to 31 for Z0 to Z31; where in the
+ * journal the bytes stand that the register held before, and how many they are. */
+struct ln_entry {
+    uint64_t number;
+    uint64_t target;
+    uint64_t start;
+    uint64_t bytes;
+};
+
+/* What the words of a row have in common. The five after the number are 1 or 0: whether lanes are read as
+ * signed numbers; whether a word has a governing predicate g, a second source m and a q; and whether what
+ * stood in the destination enters into the sum. `need` is a byte of facts of which one is enough, and 0
+ * where the row needs none. Then, by the size of a word: the bytes of a lane of Z<n> that it reads, of a
+ * lane of Z<m>, and of a lane of Z<d> that it writes. They are 0 where the row does not allow the size, and
+ * for Z<m> where the row has no m. A size that a row allows with q = 1 alone counts as allowed. */
+struct ln_row_about {
+    uint64_t number;
+    uint64_t is_signed;
+    uint64_t has_g;
+    uint64_t has_m;
+    uint64_t has_q;
+    uint64_t reads_destination;
+    uint64_t need;
+    uint64_t n_bytes[LN_MOST_SIZE + 1];
+    uint64_t m_bytes[LN_MOST_SIZE + 1];
+    uint64_t d_bytes[LN_MOST_SIZE + 1];
+};
+
 /* A session's k and number of words, where its three parts start, counted in bytes, and its facts:
  * LN_ALL_FACTS for one of the former version. */
 struct ln_session {
@@ -287,6 +420,10 @@ struct ln_session {
     uint64_t program;
     uint64_t facts;
 };
+
+/* The version of the library: LN_VERSION, if it belongs to this header. A library from before version 7 does
+ * not have this call, and a program that makes it does not link. */
+uint64_t ln_version(void);
 
 /* The row and the fields of a word, on a core with these facts.
  * LN_UNKNOWN, LN_UNDEFINED. */
@@ -334,11 +471,35 @@ uint64_t ln_back(size_t k, uint8_t *z, size_t z_len, const uint8_t *p, size_t p_
  * LN_LENGTH, LN_ROOM, LN_JOURNAL. */
 struct ln_answer ln_position(size_t k, const uint8_t *journal, size_t journal_len);
 
+/* An entry of the journal, 0 being the oldest that it holds and the position less one the newest, whose bytes
+ * ln_back restores: what its register held one step ago. No file is needed, and nothing is written.
+ * LN_LENGTH, LN_ROOM, LN_JOURNAL; LN_RANGE: `index` is not below the number of entries held. */
+struct ln_entry ln_read_entry(size_t k, const uint8_t *journal, size_t journal_len, size_t index);
+
 /* Where a register's bytes stand, for drawing. `predicate` is 0 for a vector register; every other
- * number asks for a predicate register.
- * LN_LENGTH, LN_FILE; LN_RANGE: `number` over 31, or over 15 for a predicate register. */
+ * number asks for a predicate register. `index` is which of them: 7 for Z7 or P7.
+ * LN_LENGTH, LN_FILE; LN_RANGE: `index` over 31, or over 15 for a predicate register. */
 struct ln_place ln_register_place(size_t k, const uint8_t *z, size_t z_len, const uint8_t *p,
-                                  size_t p_len, uint64_t predicate, size_t number);
+                                  size_t p_len, uint64_t predicate, size_t index);
+
+/* A lane of the vector register `source` at a size, and whether `predicate`, P0 to P15, makes it active.
+ * `is_signed` is 0 for an unsigned lane; every other number asks for a signed one.
+ *
+ * Which size to ask with: ln_read_row tells how many bytes the lanes have that a row reads, ln_size_of their
+ * size, and a value is asked at that. For saddv, uaddv and addqv `active` is asked at the same size. But
+ * sadalp and uadalp read lanes of half the width, and their predicate governs the lanes of the destination:
+ * ask for `active` with the word's own size and the destination's lane e, which holds for the source's lanes
+ * 2e and 2e + 1 together. With the source's half width other bits would be asked, which do not matter.
+ * saddlv, uaddlv and the rows from LN_SADDLB on have no predicate: every lane that they read counts, and
+ * `active` says nothing of it.
+ * LN_LENGTH, LN_FILE; LN_RANGE: `source` over 31, `predicate` over 15, `size` over 3, or `lane` not below the
+ * number of lanes. */
+struct ln_lane ln_read_lane(size_t k, const uint8_t *z, size_t z_len, const uint8_t *p, size_t p_len,
+                            size_t source, size_t predicate, size_t size, uint64_t is_signed, size_t lane);
+
+/* What a row is: its sign, its fields, its need and its widths.
+ * LN_RANGE: there is no such row. */
+struct ln_row_about ln_read_row(size_t row);
 
 /* Writes the addqv panel to the first 256 bytes of `out`: sixteen rows of sixteen bytes, row s being
  * segment s of the source (its bytes 16s up to 16s + 15) with inactive lanes zeroed, rows from k on
@@ -376,6 +537,107 @@ struct ln_session ln_read_session(const uint8_t *bytes, size_t bytes_len);
 struct ln_answer ln_write_line(uint8_t *out, size_t out_len, size_t k, uint8_t facts, const uint8_t *z,
                                size_t z_len, const uint8_t *p, size_t p_len, const uint8_t *program,
                                size_t program_len, size_t position, uint64_t number);
+
+/* What follows is written here in plain C, and is not proved. It refuses as the calls do: in the order of the
+ * numbers, and a refusal changes no byte. */
+
+/* 1 for a k that is accepted, else 0. */
+static inline int ln_is_length(size_t k)
+{
+    return k >= LN_LEAST_K && k <= LN_MOST_K && (k & (k - 1)) == 0;
+}
+
+/* Puts the low bytes of `value` into a lane of the vector register `destination`.
+ * LN_LENGTH, LN_FILE; LN_RANGE: `destination` over 31, `size` over 3, or `lane` not below the number of
+ * lanes. */
+static inline uint64_t ln_put_lane(size_t k, uint8_t *z, size_t z_len, size_t destination, size_t size,
+                                   size_t lane, uint64_t value)
+{
+    size_t start, byte;
+
+    if (!ln_is_length(k)) {
+        return LN_LENGTH;
+    }
+    if (z_len != LN_VECTOR_FILE_BYTES(k)) {
+        return LN_FILE;
+    }
+    if (destination >= LN_VECTOR_REGISTERS || size > LN_MOST_SIZE || lane >= LN_LANES(k, size)) {
+        return LN_RANGE;
+    }
+    start = destination * LN_VECTOR_BYTES(k) + lane * LN_LANE_BYTES(size);
+    for (byte = 0; byte < LN_LANE_BYTES(size); byte++) {
+        z[start + byte] = LN_CAST(uint8_t, value >> 8 * byte);
+    }
+    return LN_DONE;
+}
+
+/* Makes a lane active in the predicate register `predicate`, P0 to P15, or inactive where `active` is 0: its
+ * one bit is set or cleared, and all others stay.
+ * LN_LENGTH, LN_FILE; LN_RANGE: `predicate` over 15, `size` over 3, or `lane` not below the number of
+ * lanes. */
+static inline uint64_t ln_put_active(size_t k, uint8_t *p, size_t p_len, size_t predicate, size_t size,
+                                     size_t lane, uint64_t active)
+{
+    size_t at;
+    unsigned bit;
+
+    if (!ln_is_length(k)) {
+        return LN_LENGTH;
+    }
+    if (p_len != LN_PREDICATE_FILE_BYTES(k)) {
+        return LN_FILE;
+    }
+    if (predicate >= LN_PREDICATE_REGISTERS || size > LN_MOST_SIZE || lane >= LN_LANES(k, size)) {
+        return LN_RANGE;
+    }
+    at = predicate * LN_PREDICATE_BYTES(k) + LN_LANE_BIT(lane, size) / 8;
+    bit = 1u << LN_LANE_BIT(lane, size) % 8;
+    p[at] = LN_CAST(uint8_t, active != 0 ? p[at] | bit : p[at] & ~bit);
+    return LN_DONE;
+}
+
+/* Copies bytes to `out`; the place after them. */
+static inline uint8_t *ln_put_bytes(uint8_t *out, const uint8_t *bytes, size_t bytes_len)
+{
+    size_t at;
+
+    for (at = 0; at < bytes_len; at++) {
+        out[at] = bytes[at];
+    }
+    return out + bytes_len;
+}
+
+/* Writes a session of the newest version at the front of `out`; the value is its length, which is
+ * LN_SESSION_BYTES of k and the number of words, and bytes past it stay. The three higher bits of the facts
+ * are written as 0, as every call ignores them.
+ * LN_LENGTH, LN_FILE, LN_PROGRAM; LN_OUT: `out` has fewer bytes than the session. */
+static inline struct ln_answer ln_write_session(uint8_t *out, size_t out_len, size_t k, uint8_t facts,
+                                                const uint8_t *z, size_t z_len, const uint8_t *p,
+                                                size_t p_len, const uint8_t *program, size_t program_len)
+{
+    const size_t words = program_len / LN_WORD_BYTES;
+    const uint8_t header[LN_SESSION_HEADER_BYTES] = {
+        'L', 'N', 'W', LN_SESSION_VERSION, 0, LN_CAST(uint8_t, k), LN_CAST(uint8_t, words),
+        LN_CAST(uint8_t, words >> 8), LN_CAST(uint8_t, facts & LN_ALL_FACTS)};
+    struct ln_answer answer = {LN_DONE, 0};
+
+    if (!ln_is_length(k)) {
+        answer.number = LN_LENGTH;
+    } else if (z_len != LN_VECTOR_FILE_BYTES(k) || p_len != LN_PREDICATE_FILE_BYTES(k)) {
+        answer.number = LN_FILE;
+    } else if (program_len % LN_WORD_BYTES != 0 || words > LN_MOST_WORDS) {
+        answer.number = LN_PROGRAM;
+    } else if (out_len < LN_SESSION_BYTES(k, words)) {
+        answer.number = LN_OUT;
+    } else {
+        out = ln_put_bytes(out, header, sizeof header);
+        out = ln_put_bytes(out, z, z_len);
+        out = ln_put_bytes(out, p, p_len);
+        ln_put_bytes(out, program, program_len);
+        answer.value = LN_SESSION_BYTES(k, words);
+    }
+    return answer;
+}
 
 #ifdef __cplusplus
 }

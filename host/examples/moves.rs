@@ -1,6 +1,6 @@
 use ghishmadul::{
-    assemble, back, fresh, journal_bytes, position, predicate_file_bytes, step, vector_file_bytes,
-    Facts, Refusal,
+    assemble, back, fresh, journal_bytes, position, predicate_file_bytes, read_entry, step,
+    vector_file_bytes, Facts, Refusal, Vector,
 };
 
 fn main() -> Result<(), Refusal> {
@@ -26,19 +26,21 @@ fn main() -> Result<(), Refusal> {
     println!("after a step Z1 begins {:?}", &z[32..36]);
     assert_eq!(z[32], 31);
     step(k, facts, &mut z, &p, &program, &mut journal)?;
-    let third = step(k, facts, &mut z, &p, &program, &mut journal);
-    println!("a third step: {:?}", third);
-    assert_eq!(third, Err(Refusal::End));
+    assert_eq!(step(k, facts, &mut z, &p, &program, &mut journal), Err(Refusal::End));
     assert_eq!(position(k, &journal), Ok(2));
+
+    // What the first step found in its destination: the ones that a step back restores.
+    let entry = read_entry(k, &journal, 0)?;
+    println!("before its step {} began {:?}", entry.target, &entry.old[..4]);
+    assert_eq!((entry.target, entry.old), (Vector::Z1.into(), &[1; 32][..]));
+    assert_eq!(read_entry(k, &journal, 2), Err(Refusal::Range));
 
     // Back: Z1 is what it was.
     back(k, &mut z, &p, &mut journal)?;
     back(k, &mut z, &p, &mut journal)?;
     println!("after two steps back Z1 begins {:?}", &z[32..36]);
     assert!(z[32..64].iter().all(|&byte| byte == 1));
-    let third = back(k, &mut z, &p, &mut journal);
-    println!("a third step back: {:?}", third);
-    assert_eq!(third, Err(Refusal::Empty));
+    assert_eq!(back(k, &mut z, &p, &mut journal), Err(Refusal::Empty));
     assert_eq!(position(k, &journal), Ok(0));
     Ok(())
 }

@@ -1,5 +1,6 @@
 use ghishmadul::{
-    predicate_file_bytes, register, rows, subtotal, vector_file_bytes, Kind, Lanes, Refusal,
+    panel_rows, predicate_file_bytes, register, subtotal, vector_file_bytes, Lanes, Predicate,
+    Refusal, Size, Vector,
 };
 
 fn main() -> Result<(), Refusal> {
@@ -14,17 +15,17 @@ fn main() -> Result<(), Refusal> {
     p[2 * 4 + 2] = 0b100;
 
     // The parts of the files that hold them, to be drawn.
-    let (z3, p2) =
-        (register(k, &z, &p, Kind::Vector, 3)?, register(k, &z, &p, Kind::Predicate, 2)?);
+    let z3 = register(k, &z, &p, Vector::Z3)?;
+    let p2 = register(k, &z, &p, Predicate::P2)?;
     println!("Z3 is {:?}", z3);
     println!("P2 is {:?}", p2);
     assert_eq!(z3[..4], [100, 0, 101, 0]);
     assert_eq!(p2, [1, 0, 4, 0]);
-    assert_eq!(register(k, &z, &p, Kind::Predicate, 16), Err(Refusal::Range));
+    assert_eq!(register(k, &z[1..], &p, Vector::Z3), Err(Refusal::File));
 
     // The panel: a row for each segment of sixteen bytes, inactive lanes zeroed.
-    let lanes = Lanes { source: 3, governing: 2, size: 1 };
-    let panel = rows(k, &z, &p, lanes)?;
+    let lanes = Lanes { source: Vector::Z3, predicate: Predicate::P2, size: Size::H };
+    let panel = panel_rows(k, &z, &p, lanes)?;
     println!("its segments with inactive lanes zeroed: {:?}", &panel[..2]);
     assert_eq!(panel[0][..4], [100, 0, 0, 0]);
     assert_eq!(panel[1][..4], [0, 0, 109, 0]);

@@ -1,11 +1,16 @@
-use ghishmadul::{read_session, read_word, text_of, Facts, Refusal};
+use ghishmadul::{
+    predicate_file_bytes, read_session, read_word, session_bytes, text_of, vector_file_bytes,
+    write_session, Facts, Refusal,
+};
 
 fn main() -> Result<(), Refusal> {
     // A session of length 1 with two words, of a core with SVE: version 2, and a byte of facts.
-    let mut bytes = b"LNW\x02\x00\x01\x02\x00\x01".to_vec();
-    bytes.extend([0; 512 + 32]);
-    bytes.extend(0x0400_2020u32.to_le_bytes());
-    bytes.extend(0x2E30_3822u32.to_le_bytes());
+    let (z, p) = (vec![0; vector_file_bytes(1)], vec![0; predicate_file_bytes(1)]);
+    let program = [0x0400_2020u32.to_le_bytes(), 0x2E30_3822u32.to_le_bytes()].concat();
+    let mut bytes = vec![0; session_bytes(1, 2)];
+    let written = write_session(&mut bytes, 1, Facts::SVE, &z, &p, &program);
+    assert_eq!(written, Ok(bytes.len()));
+    assert_eq!(bytes[..9], *b"LNW\x02\x00\x01\x02\x00\x01");
 
     let session = read_session(&bytes)?;
     println!("length {}, {} words from byte {}", session.k, session.count, session.program);

@@ -1,11 +1,15 @@
-use ghishmadul::{assemble, decode, text, text_of, Facts, Refusal};
+use ghishmadul::{
+    assemble, decode, text, text_of, Facts, NotAssembled, Predicate, Refusal, Row, Size, Vector,
+};
 
 fn main() -> Result<(), Refusal> {
     // A word, its fields and its text, on a core with SVE.
     let (word, facts) = (0x0400_2020, Facts::SVE);
     let fields = decode(word, facts)?;
     println!("{:08x}: {:?}", word, fields);
-    assert_eq!((fields.row, fields.size, fields.n, fields.d, fields.g), (0, 0, 1, 0, 0));
+    assert_eq!((fields.row, fields.size), (Row::Saddv, Size::B));
+    assert_eq!((fields.d, fields.g, fields.n), (Vector::Z0, Some(Predicate::P0), Vector::Z1));
+    assert_eq!((fields.m, fields.q), (None, None));
 
     println!("{:08x}: {}", word, text_of(word, facts)?);
     assert_eq!(text_of(word, facts)?, "saddv d0, p0, z1.b");
@@ -15,11 +19,11 @@ fn main() -> Result<(), Refusal> {
 
     // And back: a text is read exactly as it is written.
     assert_eq!(assemble("saddv d0, p0, z1.b", facts), Ok(word));
-    assert_eq!(assemble("saddv d0,p0,z1.b", facts), Err(Refusal::Text));
+    assert_eq!(assemble("saddv d0,p0,z1.b", facts), Err(NotAssembled::NoWord));
 
     // What is not allowed is told by its name.
     println!("saddv d0, p0, z1.d: {:?}", assemble("saddv d0, p0, z1.d", facts));
-    assert_eq!(assemble("saddv d0, p0, z1.d", facts), Err(Refusal::Text));
+    assert_eq!(assemble("saddv d0, p0, z1.d", facts), Err(NotAssembled::NoWord));
     assert_eq!(decode(0x0400_0000, Facts::ALL), Err(Refusal::Unknown));
     assert_eq!(decode(0x4500_0000, Facts::ALL), Err(Refusal::Undefined));
     assert_eq!(text(word, facts, &mut [0; 31]), Err(Refusal::Out));

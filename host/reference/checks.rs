@@ -15,14 +15,20 @@ pub fn length(k: usize) -> Result<(), Refusal> {
     }
 }
 
-/// The length and both files.
-pub fn files(k: usize, z: &[u8], p: &[u8]) -> Result<(), Refusal> {
-    length(k)?;
-    if z.len() == 512 * k && p.len() == 32 * k {
+/// A file that has so many bytes.
+pub fn size_of_file(file: &[u8], bytes: usize) -> Result<(), Refusal> {
+    if file.len() == bytes {
         Ok(())
     } else {
         Err(Refusal::File)
     }
+}
+
+/// The length and both files.
+pub fn files(k: usize, z: &[u8], p: &[u8]) -> Result<(), Refusal> {
+    length(k)?;
+    size_of_file(z, 512 * k)?;
+    size_of_file(p, 32 * k)
 }
 
 pub fn program(program: &[u8]) -> Result<(), Refusal> {

@@ -1,8 +1,7 @@
 //! What each word does.
 
 use crate::lanes::{active, extended, lane, set_lane, sum_of_active};
-use crate::words::{Form, TABLE};
-use ghishmadul::Fields;
+use crate::words::{Fields, Form, TABLE};
 
 /// Executes an accepted word over files of the right sizes.
 pub fn execute(fields: &Fields, k: usize, z: &mut [u8], p: &[u8]) {

@@ -50,3 +50,13 @@ pub fn suffice(facts: Facts, row: usize) -> bool {
         Sve2p1OrSme2p1 => facts.sve2p1 || facts.sme2p1,
     }
 }
+
+/// The byte of the facts of which a row needs one; 0 where it needs none.
+pub fn need(row: usize) -> u8 {
+    match NEEDS[row] {
+        Nothing => 0,
+        SveOrSme => 0b01001,
+        Sve2OrSme => 0b01010,
+        Sve2p1OrSme2p1 => 0b10100,
+    }
+}

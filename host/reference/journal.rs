@@ -1,4 +1,4 @@
-//! The journal: fresh, step, back and the position.
+//! The journal: fresh, step, back, the position and the entries.
 
 use crate::{checks, decode, execute::execute};
 use ghishmadul::{Facts, Refusal};
@@ -78,4 +78,21 @@ pub fn position(k: usize, journal: &[u8]) -> Result<usize, Refusal> {
     checks::length(k)?;
     checks::room(journal)?;
     count(k, journal)
+}
+
+/// An entry: the number of its register, and where its old bytes stand in the journal.
+#[derive(Clone, Copy, Debug, PartialEq, Eq)]
+pub struct Entry {
+    pub target: usize,
+    pub start: usize,
+    pub bytes: usize,
+}
+
+pub fn read_entry(k: usize, journal: &[u8], index: usize) -> Result<Entry, Refusal> {
+    let held = position(k, journal)?;
+    if index >= held {
+        return Err(Refusal::Range);
+    }
+    let place = HEADER + index * entry_bytes(k);
+    Ok(Entry { target: journal[place].into(), start: place + 1, bytes: 16 * k })
 }

@@ -8,12 +8,19 @@ mod journal;
 mod lanes;
 mod names;
 mod pane;
+mod rows;
 mod session;
 mod words;
 
 pub use facts::{facts_of, ALL, HIGHER};
-pub use journal::{back, fresh, position, step};
+pub use journal::{back, fresh, position, read_entry, step, Entry};
 pub use names::{assemble, text};
-pub use pane::{panel, read_word, register_place, subtotal};
-pub use session::{line, read_session, walk, write_line};
-pub use words::{decode, Row, TABLE};
+pub use pane::{
+    panel, put_active, put_lane, read_lane, read_word, register_place, subtotal, Asked,
+};
+pub use rows::{read_row, About};
+pub use session::{line, read_session, walk, write_line, write_session};
+pub use words::{decode, Fields, Row, TABLE};
+
+/// The version of the calls.
+pub const VERSION: u64 = 7;

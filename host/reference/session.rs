@@ -1,4 +1,4 @@
-//! The session that `walk` reads, and the lines that it writes.
+//! The session that `walk` reads, a session written, and the lines that `walk` writes.
 
 use crate::{checks, decode, facts_of, fresh, read_word, step, text, ALL, HIGHER};
 use ghishmadul::{Facts, Refusal, Session};
@@ -24,6 +24,30 @@ pub fn read_session(bytes: &[u8]) -> Result<Session, Refusal> {
     } else {
         Err(Refusal::Session)
     }
+}
+
+/// A session of version 2 at the front of the output.
+pub fn write_session(
+    out: &mut [u8],
+    k: usize,
+    facts: u8,
+    z: &[u8],
+    p: &[u8],
+    program: &[u8],
+) -> Result<usize, Refusal> {
+    checks::files(k, z, p)?;
+    checks::program(program)?;
+    let count = (program.len() / 4) as u16;
+    let mut session = b"LNW\x02\x00".to_vec();
+    session.push(k as u8);
+    session.extend(count.to_le_bytes());
+    session.push(facts & ALL);
+    session.extend([z, p, program].concat());
+    if out.len() < session.len() {
+        return Err(Refusal::Out);
+    }
+    out[..session.len()].copy_from_slice(&session);
+    Ok(session.len())
 }
 
 /// Everything that `walk` prints for this input.

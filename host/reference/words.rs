@@ -1,7 +1,19 @@
 //! The twenty-three words.
 
 use crate::facts::suffice;
-use ghishmadul::{Facts, Fields, Refusal};
+use ghishmadul::{Facts, Refusal};
+
+/// The row and the fields of a word, as numbers; a field that the row does not have is 0.
+#[derive(Clone, Copy, Debug, PartialEq, Eq)]
+pub struct Fields {
+    pub row: usize,
+    pub size: usize,
+    pub n: usize,
+    pub d: usize,
+    pub g: usize,
+    pub m: usize,
+    pub q: usize,
+}
 
 /// What the words of a row have in common.
 #[derive(Clone, Copy, PartialEq, Eq)]
@@ -98,7 +110,6 @@ pub fn decode(word: u32, facts: Facts) -> Result<Fields, Refusal> {
     if !TABLE[row].allows(size, q) || !suffice(facts, row) {
         return Err(Refusal::Undefined);
     }
-    // A field that the row does not have is 0.
     let (g, m, q) = match TABLE[row].form {
         Form::LongAcross { .. } => (0, 0, q),
         Form::Widening { .. } => (0, field(16, 5), 0),

@@ -62,6 +62,62 @@ pub struct Word {
     pub at: u64,
 }
 
+/// A lane of a vector register, 0 with a refusal.
+#[repr(C)]
+#[derive(Clone, Copy, Debug)]
+pub struct Lane {
+    /// 0, or the refusal's number.
+    pub number: u64,
+    /// The lane at its sign, extended to 64 bits.
+    pub value: u64,
+    /// 1 where it is active, else 0.
+    pub active: u64,
+    /// The number of its first byte in the vector file.
+    pub start: u64,
+    /// The bit of the predicate register that makes it active.
+    pub bit: u64,
+}
+
+/// An entry of a journal, 0 with a refusal.
+#[repr(C)]
+#[derive(Clone, Copy, Debug)]
+pub struct Entry {
+    /// 0, or the refusal's number.
+    pub number: u64,
+    /// The number of the register that the entry's step wrote.
+    pub target: u64,
+    /// The number of the first of its old bytes in the journal.
+    pub start: u64,
+    /// How many they are.
+    pub bytes: u64,
+}
+
+/// What a row is, 0 with a refusal. The three arrays go by the size of a word.
+#[repr(C)]
+#[derive(Clone, Copy, Debug)]
+pub struct About {
+    /// 0, or the refusal's number.
+    pub number: u64,
+    /// 1 where lanes are read as signed numbers, else 0.
+    pub is_signed: u64,
+    /// 1 where a word has a governing predicate.
+    pub has_g: u64,
+    /// 1 where a word has a second source.
+    pub has_m: u64,
+    /// 1 where a word has a Q.
+    pub has_q: u64,
+    /// 1 where what stood in the destination enters into the sum.
+    pub reads_destination: u64,
+    /// A byte of facts of which one is enough, 0 where none is needed.
+    pub need: u64,
+    /// The bytes of a lane of the source, 0 where the size is not allowed.
+    pub n_bytes: [u64; 4],
+    /// The bytes of a lane of the second source, 0 where there is none too.
+    pub m_bytes: [u64; 4],
+    /// The bytes of a lane of the destination.
+    pub d_bytes: [u64; 4],
+}
+
 /// A session's length and number of words, where its parts start, and its facts; 0 with a refusal.
 #[repr(C)]
 #[derive(Clone, Copy, Debug)]
@@ -84,6 +140,9 @@ pub struct Session {
 
 #[link(name = "ln", kind = "static")]
 extern "C" {
+    /// The version of the library.
+    pub fn ln_version() -> u64;
+
     /// The row and the fields of a word.
     pub fn ln_decode(word: u32, facts: u8) -> Fields;
 
@@ -124,6 +183,9 @@ extern "C" {
     /// The journal's position.
     pub fn ln_position(k: usize, journal: *const u8, journal_len: usize) -> Answer;
 
+    /// The entry with number `index` of a journal, 0 being the oldest.
+    pub fn ln_read_entry(k: usize, journal: *const u8, journal_len: usize, index: usize) -> Entry;
+
     /// Where a register's bytes stand; a `predicate` that is not 0 asks for a predicate register.
     pub fn ln_register_place(
         k: usize,
@@ -132,8 +194,25 @@ extern "C" {
         p: *const u8,
         p_len: usize,
         predicate: u64,
-        number: usize,
+        index: usize,
     ) -> Place;
+
+    /// A lane of a vector register, and whether it is active; `is_signed` is 0 for an unsigned lane.
+    pub fn ln_read_lane(
+        k: usize,
+        z: *const u8,
+        z_len: usize,
+        p: *const u8,
+        p_len: usize,
+        source: usize,
+        predicate: usize,
+        size: usize,
+        is_signed: u64,
+        lane: usize,
+    ) -> Lane;
+
+    /// What a row is.
+    pub fn ln_read_row(row: usize) -> About;
 
     /// Writes the addqv panel to the first 256 bytes of `out`.
     pub fn ln_panel(

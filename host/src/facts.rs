@@ -1,5 +1,14 @@
 //! What is known of a core.
 
+use std::fmt;
+use std::str::FromStr;
+
+/// The names of the facts, in the order of their bits.
+const NAMES: [&str; 5] = ["sve", "sve2", "sve2p1", "sme", "sme2p1"];
+
+/// What stands for no fact at all.
+const NONE: &str = "none";
+
 /// The facts about a core that decide which words it has. None implies another; a row needs
 ///
 /// | rows | one of |
@@ -10,8 +19,8 @@
 /// | all others | `sve2`, `sme` |
 ///
 /// A word whose row needs what the facts lack is [`Refusal::Undefined`](crate::Refusal::Undefined). The
-/// constants are cores that there are; every other set can be written field by field. The default is
-/// [`Facts::NONE`].
+/// constants are cores that there are; every other set can be written field by field, or read from a text
+/// such as `sve sve2`, which is also how facts are shown. The default is [`Facts::NONE`].
 ///
 #[doc = concat!("```\n", include_str!("../examples/cores.rs"), "```")]
 #[derive(Clone, Copy, Debug, Default, PartialEq, Eq, Hash)]
@@ -69,3 +78,49 @@ impl Facts {
         }
     }
 }
+
+impl fmt::Display for Facts {
+    /// The names, one space apart, or `none`.
+    fn fmt(&self, formatter: &mut fmt::Formatter<'_>) -> fmt::Result {
+        if *self == Facts::NONE {
+            return formatter.write_str(NONE);
+        }
+        let names = (0..).zip(NAMES).filter(|(bit, _)| self.byte() >> bit & 1 == 1);
+        let names: Vec<&str> = names.map(|(_, name)| name).collect();
+        formatter.write_str(&names.join(" "))
+    }
+}
+
+impl FromStr for Facts {
+    type Err = NoFact;
+
+    /// Reads names with white space or commas between them, in any order and letter case, or `none`.
+    ///
+    /// # Errors
+    ///
+    /// [`NoFact`], with the first name that is none of the five.
+    fn from_str(text: &str) -> Result<Facts, NoFact> {
+        if text.trim().eq_ignore_ascii_case(NONE) {
+            return Ok(Facts::NONE);
+        }
+        let names = text.split(|c: char| c.is_whitespace() || c == ',').filter(|n| !n.is_empty());
+        let mut byte = 0;
+        for name in names {
+            let bit = NAMES.iter().position(|known| name.eq_ignore_ascii_case(known));
+            byte |= 1 << bit.ok_or_else(|| NoFact(name.to_string()))?;
+        }
+        Ok(Facts::from_byte(byte))
+    }
+}
+
+/// A name that is no fact.
+#[derive(Clone, Debug, PartialEq, Eq)]
+pub struct NoFact(pub String);
+
+impl fmt::Display for NoFact {
+    fn fmt(&self, formatter: &mut fmt::Formatter<'_>) -> fmt::Result {
+        write!(formatter, "{:?} is no fact: they are {}", self.0, NAMES.join(", "))
+    }
+}
+
+impl std::error::Error for NoFact {}

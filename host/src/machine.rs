@@ -1,9 +1,12 @@
 //! An owner of files, program and journal.
 
+use crate::refusal::known;
 use crate::{
-    back, fresh, position, predicate_file_bytes, read_session, read_word, register, register_place,
-    rows, step, subtotal, text_of, vector_bytes, vector_file_bytes, write_line, Facts, Kind, Lanes,
-    Refusal, JOURNAL_HEADER_BYTES, LONGEST_LINE, MOST_JOURNAL_BYTES,
+    back, decode, fresh, lacking, lanes, panel_rows, position, predicate_file_bytes, put_active,
+    put_lane, read_entry, read_lane, read_session, read_word, register, register_place,
+    session_bytes, step, subtotal, text_of, vector_bytes, vector_file_bytes, write_line,
+    write_session, Entry, Facts, Fields, Kind, Lane, Lanes, Predicate, Refusal, Register, Size,
+    Vector, JOURNAL_HEADER_BYTES, LONGEST_LINE, MOST_JOURNAL_BYTES,
 };
 use std::ops::Range;
 
@@ -28,8 +31,10 @@ impl Machine {
     /// A core with these facts, registers of zeros, this program, and a journal of the most bytes. That
     /// has room for every step of every program, but at length 16 for 254 alone.
     ///
-    /// Refused: [`Refusal::Length`], [`Refusal::Program`]. A word that the facts do not accept is refused
-    /// when it is stepped.
+    /// # Errors
+    ///
+    /// [`Refusal::Length`], [`Refusal::Program`]. A word that the facts do not accept is refused when it is
+    /// stepped.
     pub fn new(k: usize, facts: Facts, words: &[u32]) -> Result<Machine, Refusal> {
         Machine::with_room(k, facts, words, MOST_JOURNAL_BYTES)
     }
@@ -37,7 +42,9 @@ impl Machine {
     /// The same with a journal of so many bytes; [`journal_bytes`](crate::journal_bytes) tells how many
     /// some entries take.
     ///
-    /// Refused: [`Refusal::Length`], [`Refusal::Program`], [`Refusal::Room`].
+    /// # Errors
+    ///
+    /// [`Refusal::Length`], [`Refusal::Program`], [`Refusal::Room`].
     pub fn with_room(
         k: usize,
         facts: Facts,
@@ -53,7 +60,9 @@ impl Machine {
 
     /// The facts, the files and the program of a session, and a journal of the most bytes.
     ///
-    /// Refused: [`Refusal::Session`].
+    /// # Errors
+    ///
+    /// [`Refusal::Session`].
     pub fn from_session(bytes: &[u8]) -> Result<Machine, Refusal> {
         let session = read_session(bytes)?;
         let z = bytes[session.vectors..session.predicates].to_vec();
@@ -113,7 +122,7 @@ impl Machine {
 
     /// How many steps were made and not taken back: the number of the word that the next one executes.
     pub fn position(&self) -> usize {
-        position(self.k, &self.journal).expect("a machine's journal is well formed")
+        known(position(self.k, &self.journal))
     }
 
     /// How many steps the journal has room for; programs end after 256.
@@ -123,75 +132,175 @@ impl Machine {
 
     /// The program's word with this number.
     ///
-    /// Refused: [`Refusal::End`].
+    /// # Errors
+    ///
+    /// [`Refusal::End`].
     pub fn word(&self, at: usize) -> Result<u32, Refusal> {
         read_word(&self.program, at).map(|word| word.word)
     }
 
     /// The text of the program's word with this number.
     ///
-    /// Refused: [`Refusal::End`], [`Refusal::Unknown`], [`Refusal::Undefined`].
+    /// # Errors
+    ///
+    /// [`Refusal::End`], [`Refusal::Unknown`], [`Refusal::Undefined`].
     pub fn text(&self, at: usize) -> Result<String, Refusal> {
         text_of(self.word(at)?, self.facts)
     }
 
+    /// The row and the fields of the program's word with this number; the next step's is at
+    /// [`Machine::position`].
+    ///
+    /// # Errors
+    ///
+    /// [`Refusal::End`], [`Refusal::Unknown`], [`Refusal::Undefined`].
+    pub fn fields(&self, at: usize) -> Result<Fields, Refusal> {
+        decode(self.word(at)?, self.facts)
+    }
+
+    /// The facts of which one would be enough for the program's word with this number, where the core lacks
+    /// it: [`lacking`].
+    pub fn lacks(&self, at: usize) -> Option<Facts> {
+        lacking(self.word(at).ok()?, self.facts)
+    }
+
     /// Executes the word at the position, and keeps what its destination held.
     ///
-    /// Refused: [`Refusal::End`], [`Refusal::Unknown`], [`Refusal::Undefined`], [`Refusal::Full`].
+    /// # Errors
+    ///
+    /// [`Refusal::End`], [`Refusal::Unknown`], [`Refusal::Undefined`], [`Refusal::Full`].
     pub fn step(&mut self) -> Result<(), Refusal> {
         step(self.k, self.facts, &mut self.z, &self.p, &self.program, &mut self.journal)
     }
 
     /// Takes the last step back.
     ///
-    /// Refused: [`Refusal::Empty`].
+    /// # Errors
+    ///
+    /// [`Refusal::Empty`].
     pub fn back(&mut self) -> Result<(), Refusal> {
         back(self.k, &mut self.z, &self.p, &mut self.journal)
     }
 
-    /// A register's bytes, the lowest first.
+    /// Takes every step back: the position is 0 then, and each register that a step wrote is what it was
+    /// before the first of them.
+    pub fn reset(&mut self) {
+        while self.back().is_ok() {}
+    }
+
+    /// The entry of the step with this number, which was made and not taken back: the register that it wrote,
+    /// and what that held before.
     ///
-    /// Refused: [`Refusal::Range`].
-    pub fn register(&self, kind: Kind, number: usize) -> Result<&[u8], Refusal> {
-        register(self.k, &self.z, &self.p, kind, number)
+    /// # Errors
+    ///
+    /// [`Refusal::Range`] where there is no such step.
+    pub fn entry(&self, index: usize) -> Result<Entry<'_>, Refusal> {
+        read_entry(self.k, &self.journal, index)
+    }
+
+    /// The last step's entry: what [`Machine::back`] would restore. None before the first step.
+    pub fn last_entry(&self) -> Option<Entry<'_>> {
+        self.entry(self.position().checked_sub(1)?).ok()
+    }
+
+    /// A register's bytes, the lowest first.
+    pub fn register(&self, of: impl Into<Register>) -> &[u8] {
+        known(register(self.k, &self.z, &self.p, of))
     }
 
     /// A register's bytes, to be set. The journal knows nothing of it: a step back restores what the
     /// destination held when the step was made.
-    ///
-    /// Refused: [`Refusal::Range`].
-    pub fn register_mut(&mut self, kind: Kind, number: usize) -> Result<&mut [u8], Refusal> {
-        let place = register_place(self.k, &self.z, &self.p, kind, number)?;
+    pub fn register_mut(&mut self, of: impl Into<Register>) -> &mut [u8] {
+        let place = known(register_place(self.k, &self.z, &self.p, of));
         let file = match place.kind {
             Kind::Vector => &mut self.z,
             Kind::Predicate => &mut self.p,
         };
-        Ok(&mut file[place.start..place.start + place.bytes])
+        &mut file[place.start..place.start + place.bytes]
+    }
+
+    /// Every lane, lane 0 first, read as signed or unsigned numbers: [`lanes`](crate::lanes()).
+    pub fn lanes(
+        &self,
+        of: Lanes,
+        signed: bool,
+    ) -> impl DoubleEndedIterator<Item = Lane> + ExactSizeIterator + '_ {
+        known(lanes(self.k, &self.z, &self.p, of, signed))
+    }
+
+    /// One lane, read as a signed or an unsigned number.
+    ///
+    /// # Errors
+    ///
+    /// [`Refusal::Range`] where there is no such lane.
+    pub fn lane(&self, of: Lanes, signed: bool, lane: usize) -> Result<Lane, Refusal> {
+        read_lane(self.k, &self.z, &self.p, of, signed, lane)
+    }
+
+    /// Puts the low bytes of `value` into a lane of a vector register. The journal knows nothing of it.
+    ///
+    /// # Errors
+    ///
+    /// [`Refusal::Range`] where there is no such lane.
+    pub fn put_lane(
+        &mut self,
+        destination: Vector,
+        size: Size,
+        lane: usize,
+        value: u64,
+    ) -> Result<(), Refusal> {
+        put_lane(self.k, &mut self.z, destination, size, lane, value)
+    }
+
+    /// Makes a lane active in a predicate register, or inactive: its one bit is set or cleared.
+    ///
+    /// # Errors
+    ///
+    /// [`Refusal::Range`] where there is no such lane.
+    pub fn put_active(
+        &mut self,
+        predicate: Predicate,
+        size: Size,
+        lane: usize,
+        active: bool,
+    ) -> Result<(), Refusal> {
+        put_active(self.k, &mut self.p, predicate, size, lane, active)
     }
 
     /// The addqv panel: row s is segment s of the source with inactive lanes zeroed.
     ///
-    /// Refused: [`Refusal::Range`].
-    pub fn panel(&self, lanes: Lanes) -> Result<[[u8; 16]; 16], Refusal> {
-        rows(self.k, &self.z, &self.p, lanes)
+    /// # Errors
+    ///
+    /// [`Refusal::Range`] where the predicate cannot govern.
+    pub fn panel(&self, of: Lanes) -> Result<[[u8; 16]; 16], Refusal> {
+        panel_rows(self.k, &self.z, &self.p, of)
     }
 
     /// The sum, modulo 2^64, of the active lanes with the numbers of `range`, each read as a signed or
     /// an unsigned number.
     ///
-    /// Refused: [`Refusal::Range`].
-    pub fn subtotal(
-        &self,
-        lanes: Lanes,
-        signed: bool,
-        range: Range<usize>,
-    ) -> Result<u64, Refusal> {
-        subtotal(self.k, &self.z, &self.p, lanes, signed, range)
+    /// # Errors
+    ///
+    /// [`Refusal::Range`] where the predicate cannot govern, or the range ends before its start or above the
+    /// number of lanes.
+    pub fn subtotal(&self, of: Lanes, signed: bool, range: Range<usize>) -> Result<u64, Refusal> {
+        subtotal(self.k, &self.z, &self.p, of, signed, range)
+    }
+
+    /// A session of the machine as it stands, to start another from: its facts, files and program. The steps
+    /// that were made are not in it.
+    pub fn session(&self) -> Vec<u8> {
+        let Machine { k, facts, z, p, program, .. } = self;
+        let mut out = vec![0; session_bytes(*k, program.len() / 4)];
+        known(write_session(&mut out, *k, *facts, z, p, program));
+        out
     }
 
     /// The line of the step at `position` that has just given this answer; it ends in a newline.
     ///
-    /// Refused: [`Refusal::End`]; [`Refusal::Unknown`] and [`Refusal::Undefined`] where the answer is
+    /// # Errors
+    ///
+    /// [`Refusal::End`]; [`Refusal::Unknown`] and [`Refusal::Undefined`] where the answer is
     /// done and the word is not accepted.
     pub fn line(&self, position: usize, answer: Result<(), Refusal>) -> Result<String, Refusal> {
         let mut out = [0; LONGEST_LINE];

@@ -6,6 +6,15 @@ use std::fmt;
 /// [`Refusal::Out`] is tested before [`Refusal::Unknown`].
 ///
 /// Later versions may have more, so a `match` needs an arm for the others.
+///
+/// ```
+/// use ghishmadul::{fresh, Refusal};
+///
+/// let refusal = fresh(3, &mut [0; 8]).unwrap_err();
+/// assert_eq!(refusal, Refusal::Length);
+/// assert_eq!((refusal.number(), refusal.name()), (1, "LENGTH"));
+/// assert_eq!(refusal.sentence(), "the length is not 1, 2, 4, 8 or 16");
+/// ```
 #[derive(Clone, Copy, Debug, PartialEq, Eq, Hash)]
 #[non_exhaustive]
 pub enum Refusal {
@@ -23,7 +32,8 @@ pub enum Refusal {
     End,
     /// 7: no row of the table matches the word.
     Unknown,
-    /// 8: a row matches; its size is not allowed, or the facts lack what it needs.
+    /// 8: a row matches; its size is not allowed, or the facts lack what it needs. Which of the two,
+    /// [`lacking`](crate::lacking) tells.
     Undefined,
     /// 9: no further entry fits into the journal.
     Full,
@@ -33,7 +43,7 @@ pub enum Refusal {
     Out,
     /// 12: not one of the accepted texts, or one whose word the facts do not accept.
     Text,
-    /// 13: a register, predicate, size or range of lanes that is not there.
+    /// 13: a register, predicate, size, lane, range of lanes, entry or row that is not there.
     Range,
     /// 14: not a session.
     Session,
@@ -54,20 +64,30 @@ impl Refusal {
     fn said(self) -> (u64, &'static str, &'static str) {
         match self {
             Length => (1, "LENGTH", "the length is not 1, 2, 4, 8 or 16"),
-            File => (2, "FILE", "the vector or the predicate file has the wrong size"),
-            Program => (3, "PROGRAM", "the program is not whole words, or over 256 of them"),
+            File => {
+                (2, "FILE", "the vector file has not 512k bytes, or the predicate file not 32k")
+            }
+            Program => (3, "PROGRAM", "the program is not whole words, or has over 256 of them"),
             Room => (4, "ROOM", "the journal has under 8 or over 65,536 bytes"),
             Journal => (5, "JOURNAL", "the journal is not well formed"),
             End => (6, "END", "the program has no word at this place"),
-            Unknown => (7, "UNKNOWN", "the word is unknown"),
-            Undefined => (8, "UNDEFINED", "the word is undefined"),
-            Full => (9, "FULL", "the journal is full"),
-            Empty => (10, "EMPTY", "the journal is empty"),
+            Unknown => (7, "UNKNOWN", "no row of the table matches the word"),
+            Undefined => (
+                8,
+                "UNDEFINED",
+                "a row matches the word, but the size is not allowed or the facts lack what the row needs",
+            ),
+            Full => (9, "FULL", "no further entry fits into the journal"),
+            Empty => (10, "EMPTY", "the journal holds no step to take back"),
             Out => (11, "OUT", "the output is too short"),
-            Text => (12, "TEXT", "no word has this text"),
-            Range => (13, "RANGE", "there is no such register, predicate, size or range of lanes"),
-            Session => (14, "SESSION", "this is not a session"),
-            Unlisted(number) => (number, "no answer number", "a refusal without a name"),
+            Text => (12, "TEXT", "no word that these facts accept has this text"),
+            Range => (
+                13,
+                "RANGE",
+                "there is no such register, predicate, size, lane, range of lanes, entry or row",
+            ),
+            Session => (14, "SESSION", "the bytes are not a session"),
+            Unlisted(number) => (number, "no answer number", "no answer has this number"),
         }
     }
 
@@ -81,7 +101,16 @@ impl Refusal {
         self.said().1
     }
 
+    /// What the refusal says, in a sentence.
+    pub fn sentence(self) -> &'static str {
+        self.said().2
+    }
+
     /// Done for 0, else the refusal with this number.
+    ///
+    /// # Errors
+    ///
+    /// The refusal.
     #[inline]
     pub fn check(number: u64) -> Result<(), Refusal> {
         if number == 0 {
@@ -100,9 +129,13 @@ impl Refusal {
 
 impl fmt::Display for Refusal {
     fn fmt(&self, formatter: &mut fmt::Formatter<'_>) -> fmt::Result {
-        let (number, _, sentence) = self.said();
-        write!(formatter, "{} (refusal {})", sentence, number)
+        write!(formatter, "{} (refusal {})", self.sentence(), self.number())
     }
 }
 
 impl std::error::Error for Refusal {}
+
+/// What is always so of a library of this crate's version.
+pub(crate) fn known<T>(answer: Result<T, Refusal>) -> T {
+    answer.expect("the library should be of this crate's version")
+}

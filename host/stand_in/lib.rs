@@ -1,10 +1,14 @@
 //! Stands in for the engine's library: the same boundary over the reference, with a slip if one is
-//! named. It is there to try the comparison itself.
+//! named. It is there to try the comparison itself. What a caller of the boundary owes, the header says.
 
+#![allow(clippy::missing_safety_doc)]
+
+mod reading;
 mod slips;
 
-use ghishmadul::boundary::{Answer, Fields, Place, Session, Word};
-use ghishmadul::{Facts, Kind, Lanes, Refusal};
+use ghishmadul::boundary::{About, Answer, Entry, Fields, Lane, Place, Session, Word};
+use ghishmadul::{Facts, Kind, Refusal};
+use reference::Asked;
 use std::slice::{from_raw_parts, from_raw_parts_mut};
 
 unsafe fn lent<'a>(start: *const u8, bytes: usize) -> &'a [u8] {
@@ -38,6 +42,11 @@ fn answer(answer: Result<u64, Refusal>) -> Answer {
 fn facts_byte(facts: Facts) -> u64 {
     let bits = [facts.sve, facts.sve2, facts.sve2p1, facts.sme, facts.sme2p1];
     bits.iter().rev().fold(0, |byte, &bit| byte << 1 | u64::from(bit))
+}
+
+#[no_mangle]
+pub extern "C" fn ln_version() -> u64 {
+    reading::version()
 }
 
 #[no_mangle]
@@ -112,6 +121,81 @@ pub unsafe extern "C" fn ln_position(k: usize, journal: *const u8, journal_len: 
 }
 
 #[no_mangle]
+pub unsafe extern "C" fn ln_read_entry(
+    k: usize,
+    journal: *const u8,
+    journal_len: usize,
+    index: usize,
+) -> Entry {
+    match reading::read_entry(k, lent(journal, journal_len), index) {
+        Ok(entry) => Entry {
+            number: 0,
+            target: entry.target as u64,
+            start: entry.start as u64,
+            bytes: entry.bytes as u64,
+        },
+        Err(refusal) => Entry { number: refusal.number(), target: 0, start: 0, bytes: 0 },
+    }
+}
+
+#[no_mangle]
+pub unsafe extern "C" fn ln_read_lane(
+    k: usize,
+    z: *const u8,
+    z_len: usize,
+    p: *const u8,
+    p_len: usize,
+    source: usize,
+    predicate: usize,
+    size: usize,
+    is_signed: u64,
+    lane: usize,
+) -> Lane {
+    let asked = Asked { source, predicate, size };
+    match reading::read_lane(k, lent(z, z_len), lent(p, p_len), asked, is_signed, lane) {
+        Ok(lane) => Lane {
+            number: 0,
+            value: lane.value,
+            active: lane.active.into(),
+            start: lane.start as u64,
+            bit: lane.bit as u64,
+        },
+        Err(refusal) => Lane { number: refusal.number(), value: 0, active: 0, start: 0, bit: 0 },
+    }
+}
+
+#[no_mangle]
+pub extern "C" fn ln_read_row(row: usize) -> About {
+    let bytes = |widths: [usize; 4]| widths.map(|bytes| bytes as u64);
+    match reading::read_row(row) {
+        Ok(about) => About {
+            number: 0,
+            is_signed: about.signed.into(),
+            has_g: about.has_g.into(),
+            has_m: about.has_m.into(),
+            has_q: about.has_q.into(),
+            reads_destination: about.reads_destination.into(),
+            need: about.need.into(),
+            n_bytes: bytes(about.n_bytes),
+            m_bytes: bytes(about.m_bytes),
+            d_bytes: bytes(about.d_bytes),
+        },
+        Err(refusal) => About {
+            number: refusal.number(),
+            is_signed: 0,
+            has_g: 0,
+            has_m: 0,
+            has_q: 0,
+            reads_destination: 0,
+            need: 0,
+            n_bytes: [0; 4],
+            m_bytes: [0; 4],
+            d_bytes: [0; 4],
+        },
+    }
+}
+
+#[no_mangle]
 pub unsafe extern "C" fn ln_register_place(
     k: usize,
     z: *const u8,
@@ -119,10 +203,10 @@ pub unsafe extern "C" fn ln_register_place(
     p: *const u8,
     p_len: usize,
     predicate: u64,
-    register: usize,
+    index: usize,
 ) -> Place {
     let kind = if predicate == 0 { Kind::Vector } else { Kind::Predicate };
-    match reference::register_place(k, lent(z, z_len), lent(p, p_len), kind, register) {
+    match reference::register_place(k, lent(z, z_len), lent(p, p_len), kind, index) {
         Ok(place) => Place {
             number: 0,
             predicate: u64::from(place.kind == Kind::Predicate),
@@ -141,13 +225,13 @@ pub unsafe extern "C" fn ln_panel(
     p: *const u8,
     p_len: usize,
     source: usize,
-    governing: usize,
+    predicate: usize,
     size: usize,
     out: *mut u8,
     out_len: usize,
 ) -> u64 {
     let (z, p, out) = (lent(z, z_len), lent(p, p_len), lent_mut(out, out_len));
-    number(reference::panel(k, z, p, Lanes { source, governing, size }, out))
+    number(reference::panel(k, z, p, Asked { source, predicate, size }, out))
 }
 
 #[no_mangle]
@@ -158,14 +242,14 @@ pub unsafe extern "C" fn ln_subtotal(
     p: *const u8,
     p_len: usize,
     source: usize,
-    governing: usize,
+    predicate: usize,
     size: usize,
     is_signed: u64,
     a: usize,
     b: usize,
 ) -> Answer {
     let (z, p, signed) = (lent(z, z_len), lent(p, p_len), is_signed != 0);
-    answer(slips::subtotal(k, z, p, Lanes { source, governing, size }, signed, a..b))
+    answer(slips::subtotal(k, z, p, Asked { source, predicate, size }, signed, a..b))
 }
 
 #[no_mangle]

@@ -1,7 +1,7 @@
 //! The reference with the slip of `slips.txt` that the variable SLIP names; none if none is named.
 
-use ghishmadul::{Facts, Fields, Lanes, Refusal, Session};
-use reference::{facts_of, HIGHER, TABLE};
+use ghishmadul::{Facts, Refusal, Session};
+use reference::{facts_of, Asked, Fields, HIGHER, TABLE};
 use std::ops::Range;
 
 /// What the bits of a widening word say.
@@ -20,7 +20,7 @@ thread_local! {
 }
 
 /// Whether this slip is made.
-fn slips(name: &str) -> bool {
+pub fn slips(name: &str) -> bool {
     SLIP.with(|slip| slip == name)
 }
 
@@ -113,13 +113,13 @@ pub fn subtotal(
     k: usize,
     z: &[u8],
     p: &[u8],
-    lanes: Lanes,
+    asked: Asked,
     signed: bool,
     range: Range<usize>,
 ) -> Result<u64, Refusal> {
-    let total = reference::subtotal(k, z, p, lanes, signed, range.clone())?;
+    let total = reference::subtotal(k, z, p, asked, signed, range.clone())?;
     if slips("lanes counted from one") && range.start > 0 {
-        return reference::subtotal(k, z, p, lanes, signed, range.start - 1..range.end - 1);
+        return reference::subtotal(k, z, p, asked, signed, range.start - 1..range.end - 1);
     }
     Ok(total)
 }
@@ -236,10 +236,8 @@ pub fn step(
                 .or_else(|refusal| if refusal == Refusal::Full { Err(refusal) } else { Ok(()) })?;
         }
         Err(Refusal::Full) if slips("a full journal's step changes its count") => journal[7] ^= 1,
-        Err(Refusal::Journal) if slips("end tested before the journal") => {
-            if program.is_empty() {
-                return Err(Refusal::End);
-            }
+        Err(Refusal::Journal) if slips("end tested before the journal") && program.is_empty() => {
+            return Err(Refusal::End);
         }
         _ => {}
     }
@@ -304,8 +302,8 @@ fn slip(k: usize, z: &mut [u8], p: &[u8], mut before: Vec<u8>, fields: Fields) {
             z[destination][..16].rotate_left(width)
         }
         "addqv carries into the next lane" if fields.row == ADDQV => {
-            let lanes = Lanes { source: fields.n, governing: fields.g, size: fields.size };
-            z[destination][..16].copy_from_slice(&double_words_added(k, &before, p, lanes))
+            let asked = Asked { source: fields.n, predicate: fields.g, size: fields.size };
+            z[destination][..16].copy_from_slice(&double_words_added(k, &before, p, asked))
         }
         "a sum for a difference" if has(SUBTRACT) => again(word ^ SUBTRACT, p, &mut before),
         "a sum for usubwt .d alone" if fields.row == USUBWT && fields.size == 3 => {
@@ -340,9 +338,9 @@ fn slip(k: usize, z: &mut [u8], p: &[u8], mut before: Vec<u8>, fields: Fields) {
 }
 
 /// The rows of a panel added as two double words each, whatever the width of its lanes is.
-fn double_words_added(k: usize, z: &[u8], p: &[u8], lanes: Lanes) -> [u8; 16] {
+fn double_words_added(k: usize, z: &[u8], p: &[u8], asked: Asked) -> [u8; 16] {
     let mut rows = [0; 256];
-    reference::panel(k, z, p, lanes, &mut rows).expect("a panel");
+    reference::panel(k, z, p, asked, &mut rows).expect("a panel");
     let mut sums = [0; 16];
     for row in rows.chunks_exact(16) {
         for (sum, half) in sums.chunks_exact_mut(8).zip(row.chunks_exact(8)) {

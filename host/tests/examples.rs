@@ -14,8 +14,11 @@ macro_rules! example {
 }
 
 example!(cores, "../examples/cores.rs");
+example!(first, "../examples/first.rs");
+example!(lanes, "../examples/lanes.rs");
 example!(machine, "../examples/machine.rs");
 example!(moves, "../examples/moves.rs");
 example!(pane, "../examples/pane.rs");
+example!(rows, "../examples/rows.rs");
 example!(session, "../examples/session.rs");
 example!(words, "../examples/words.rs");

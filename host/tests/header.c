@@ -1,6 +1,7 @@
-/* The numbers and names of include/ln.h, a line each, with the lengths that are accepted; then the rows
- * of the table of words and for each the sets of facts that accept a word of it, then the line of a step
- * with the greatest answer number. The crate and its reference have the same. */
+/* The numbers, names and sentences of include/ln.h, a line each, with the lengths that are accepted; then the
+ * rows of the table of words with what each is and the sets of facts that accept a word of it, the shapes of
+ * the answers, and the line of a step with the greatest answer number. The crate and its reference have the
+ * same. Every cast is LN_CAST, so that this is C++ without an old one. */
 #include "ln.h"
 
 #include <stddef.h>
@@ -8,7 +9,7 @@
 
 static void say(const char *name, size_t value)
 {
-    printf("%s %lu\n", name, (unsigned long)value);
+    printf("%s %lu\n", name, LN_CAST(unsigned long, value));
 }
 
 /* The lengths, and those that a call accepts. */
@@ -36,7 +37,7 @@ static void say_line(void)
     struct ln_answer answer = ln_write_line(line, sizeof line, 1, 0, z, sizeof z, p, sizeof p, program,
                                             sizeof program, 0, UINT64_MAX);
 
-    fwrite(line, 1, (size_t)answer.value, stdout);
+    fwrite(line, 1, LN_CAST(size_t, answer.value), stdout);
 }
 
 /* The rows of the table of words. */
@@ -67,6 +68,52 @@ static void say_rows(void)
     say("USUBWT", LN_USUBWT);
 }
 
+static void say_widths(const uint64_t *widths)
+{
+    size_t size;
+
+    for (size = 0; size <= LN_MOST_SIZE; size++) {
+        printf(" %lu", LN_CAST(unsigned long, widths[size]));
+    }
+}
+
+/* Each row by its name with what it is, and the one past the last. */
+static void say_what_rows_are(void)
+{
+    size_t row;
+
+    for (row = 0; row <= LN_ROWS; row++) {
+        struct ln_row_about about = ln_read_row(row);
+        const uint64_t told[] = {about.number, about.is_signed, about.has_g, about.has_m,
+                                 about.has_q, about.reads_destination, about.need};
+        size_t at;
+
+        printf("%s", ln_row_name(row));
+        for (at = 0; at < sizeof told / sizeof *told; at++) {
+            printf(" %lu", LN_CAST(unsigned long, told[at]));
+        }
+        say_widths(about.n_bytes);
+        say_widths(about.m_bytes);
+        say_widths(about.d_bytes);
+        printf("\n");
+    }
+    printf("%s\n", ln_row_name(UINT64_MAX));
+}
+
+/* How many bytes the answers have, and where some of their members stand. */
+static void say_shapes(void)
+{
+    say("bytes of a lane's answer", sizeof(struct ln_lane));
+    say("its value at", offsetof(struct ln_lane, value));
+    say("its bit at", offsetof(struct ln_lane, bit));
+    say("bytes of an entry's answer", sizeof(struct ln_entry));
+    say("its target at", offsetof(struct ln_entry, target));
+    say("its bytes at", offsetof(struct ln_entry, bytes));
+    say("bytes of a row's answer", sizeof(struct ln_row_about));
+    say("its need at", offsetof(struct ln_row_about, need));
+    say("its d_bytes at", offsetof(struct ln_row_about, d_bytes));
+}
+
 /* The facts, and where a session's are told. */
 static void say_facts(void)
 {
@@ -95,9 +142,9 @@ static void say_accepted(void)
     unsigned facts;
 
     for (row = 0; row < sizeof words / sizeof *words; row++) {
-        printf("row %d under", (int)row);
+        printf("row %lu under", LN_CAST(unsigned long, row));
         for (facts = 0; facts <= LN_ALL_FACTS; facts++) {
-            struct ln_fields fields = ln_decode(words[row], (uint8_t)facts);
+            struct ln_fields fields = ln_decode(words[row], LN_CAST(uint8_t, facts));
             if (fields.number == LN_DONE && fields.row == row) {
                 printf(" %u", facts);
             }
@@ -106,9 +153,10 @@ static void say_accepted(void)
     }
 }
 
-int main(void)
+/* The sizes of the machine and of what is lent. */
+static void say_sizes(void)
 {
-    uint64_t number;
+    uint64_t bytes;
 
     say("LEAST_K", LN_LEAST_K);
     say("MOST_K", LN_MOST_K);
@@ -127,10 +175,31 @@ int main(void)
     say("VECTOR_FILE_BYTES(4)", LN_VECTOR_FILE_BYTES(4));
     say("PREDICATE_FILE_BYTES(4)", LN_PREDICATE_FILE_BYTES(4));
     say("JOURNAL_BYTES(4, 5)", LN_JOURNAL_BYTES(4, 5));
+    say("SESSION_BYTES(4, 5)", LN_SESSION_BYTES(4, 5));
+    say("LANES(4, 3)", LN_LANES(4, 3));
+    say("LANE_BYTES(3)", LN_LANE_BYTES(3));
+    say("LANE_BIT(5, 2)", LN_LANE_BIT(5, 2));
+    for (bytes = 0; bytes <= 9; bytes++) {
+        say("size of bytes", ln_size_of(bytes));
+    }
+}
+
+int main(void)
+{
+    uint64_t number;
+
+    say_sizes();
+    say("VERSION", LN_VERSION);
+    say("version", ln_version());
     for (number = LN_LENGTH; number <= LN_SESSION + 1; number++) {
-        say(ln_refusal_name(number), (size_t)number);
+        say(ln_refusal_name(number), number);
+    }
+    for (number = LN_DONE; number <= LN_SESSION + 1; number++) {
+        printf("%lu: %s\n", LN_CAST(unsigned long, number), ln_refusal_text(number));
     }
     say_rows();
+    say_what_rows_are();
+    say_shapes();
     say_facts();
     say_accepted();
     say_line();

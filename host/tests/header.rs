@@ -1,10 +1,10 @@
-//! The crate's numbers and names are the header's, so are the reference's rows and what they need, and so is
-//! a line: `header.c` prints the same.
+//! The crate's numbers, names and sentences are the header's, so are the reference's rows with what they are and
+//! what they need, and so is a line: `header.c` prints the same.
 
 use ghishmadul::*;
 
-#[test]
-fn the_header_has_the_same_numbers() {
+/// The sizes of the machine and of what is lent.
+fn sizes() -> impl Iterator<Item = (&'static str, usize)> {
     let ends = [("LEAST_K", LEAST_K), ("MOST_K", MOST_K)];
     let lengths = LENGTHS.iter().map(|&k| ("LENGTHS", k));
     let accepted = (0..=MOST_K + 1).filter(|&k| fresh(k, &mut [0; 8]).is_ok());
@@ -24,20 +24,89 @@ fn the_header_has_the_same_numbers() {
         ("VECTOR_FILE_BYTES(4)", vector_file_bytes(4)),
         ("PREDICATE_FILE_BYTES(4)", predicate_file_bytes(4)),
         ("JOURNAL_BYTES(4, 5)", journal_bytes(4, 5)),
+        ("SESSION_BYTES(4, 5)", session_bytes(4, 5)),
+        ("LANES(4, 3)", lane_count(4, Size::D)),
+        ("LANE_BYTES(3)", Size::D.bytes()),
+        ("LANE_BIT(5, 2)", 5 * Size::S.bytes()),
     ];
-    let sizes = ends.into_iter().chain(lengths).chain(sizes);
-    let sizes = sizes.map(|(name, value)| format!("{} {}\n", name, value));
+    let of_bytes = (0..10).map(|bytes| {
+        let size = Size::ALL.into_iter().position(|size| size.bytes() == bytes);
+        ("size of bytes", size.unwrap_or(Size::ALL.len()))
+    });
+    ends.into_iter().chain(lengths).chain(sizes).chain(of_bytes)
+}
+
+#[test]
+fn the_header_has_the_same_numbers() {
+    let said = |(name, value)| format!("{} {}\n", name, value);
+    let versions = [("VERSION", VERSION as usize), ("version", version() as usize)];
+    let sizes = sizes().chain(versions).map(said);
     let after_the_last = Refusal::ALL.len() as u64 + 1;
     let refusals = Refusal::ALL.iter().copied().chain([Refusal::Unlisted(after_the_last)]);
     let names = refusals.map(|refusal| format!("{} {}\n", refusal.name(), refusal.number()));
-    let rows = reference::TABLE.iter().zip(0..);
-    let rows = rows.map(|(row, number)| format!("{} {}\n", row.name.to_uppercase(), number));
-    let facts = facts().into_iter().map(|(name, value)| format!("{} {}\n", name, value));
+    let rows = Row::ALL.iter().map(|row| (row.name(), row.number()));
+    let rows = rows.map(|(name, number)| format!("{} {}\n", name.to_uppercase(), number));
     let needs = (0..reference::TABLE.len()).map(sets_of_a_row);
     let line = [line_of_the_greatest_number()];
-    let lines: String =
-        sizes.chain(names).chain(rows).chain(facts).chain(needs).chain(line).collect();
+    let lines: String = sizes
+        .chain(names)
+        .chain(sentences())
+        .chain(rows)
+        .chain(what_rows_are())
+        .chain(shapes().into_iter().map(said))
+        .chain(facts().into_iter().map(said))
+        .chain(needs)
+        .chain(line)
+        .collect();
     assert_eq!(lines, include_str!("header.expected"));
+}
+
+/// A sentence for each answer number, and for one that is none.
+fn sentences() -> impl Iterator<Item = String> {
+    let past = Refusal::ALL.len() as u64 + 1;
+    let refusals = (1..=past).filter_map(|number| Refusal::check(number).err());
+    let said = refusals.map(|refusal| format!("{}: {}\n", refusal.number(), refusal.sentence()));
+    std::iter::once("0: the call is done\n".to_string()).chain(said)
+}
+
+/// Each row by its name with what the reference tells of it, and the one past the last.
+fn what_rows_are() -> impl Iterator<Item = String> {
+    let lines = Row::ALL.iter().map(|row| {
+        let told = reference::read_row(row.number()).expect("a row");
+        let flags = [told.signed, told.has_g, told.has_m, told.has_q, told.reads_destination];
+        let flags = flags.map(usize::from).to_vec();
+        let widths = [told.n_bytes, told.m_bytes, told.d_bytes].concat();
+        let numbers = [&[0][..], &flags[..], &[told.need.into()], &widths].concat();
+        format!("{}{}\n", row, numbers.iter().map(|n| format!(" {}", n)).collect::<String>())
+    });
+    let past = format!("no row {}{}\n", Refusal::Range.number(), " 0".repeat(18));
+    lines.chain([past, "no row\n".to_string()])
+}
+
+/// How many bytes the answers have, and where some of their members stand.
+fn shapes() -> [(&'static str, usize); 9] {
+    let (lane, entry, row) = unsafe {
+        (
+            boundary::ln_read_lane(0, [].as_ptr(), 0, [].as_ptr(), 0, 0, 0, 0, 0, 0),
+            boundary::ln_read_entry(0, [].as_ptr(), 0, 0),
+            boundary::ln_read_row(0),
+        )
+    };
+    let place = |of: *const u64, whole: usize| of as usize - whole;
+    let in_lane = |of| place(of, &lane as *const boundary::Lane as usize);
+    let in_entry = |of| place(of, &entry as *const boundary::Entry as usize);
+    let in_row = |of| place(of, &row as *const boundary::About as usize);
+    [
+        ("bytes of a lane's answer", std::mem::size_of::<boundary::Lane>()),
+        ("its value at", in_lane(&lane.value)),
+        ("its bit at", in_lane(&lane.bit)),
+        ("bytes of an entry's answer", std::mem::size_of::<boundary::Entry>()),
+        ("its target at", in_entry(&entry.target)),
+        ("its bytes at", in_entry(&entry.bytes)),
+        ("bytes of a row's answer", std::mem::size_of::<boundary::About>()),
+        ("its need at", in_row(&row.need)),
+        ("its d_bytes at", in_row(&row.d_bytes[0])),
+    ]
 }
 
 /// The facts, and where a session's are told.
@@ -69,8 +138,10 @@ fn sets_of_a_row(row: usize) -> String {
     let sets = (0..32).filter(|&byte| {
         let facts = Facts::from_byte(byte);
         let fields = decode(word, facts);
-        assert_eq!(fields, reference::decode(word, facts));
-        fields.map(|fields| fields.row) == Ok(row)
+        let number = fields.map(|fields| fields.row.number());
+        assert_eq!(number, reference::decode(word, facts).map(|fields| fields.row));
+        assert_eq!(number.is_ok(), Row::ALL[row].about().is_met_by(facts));
+        number == Ok(row)
     });
     format!("row {} under{}\n", row, sets.map(|byte| format!(" {}", byte)).collect::<String>())
 }

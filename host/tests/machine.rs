@@ -5,10 +5,12 @@
 mod random;
 
 use ghishmadul::{
-    journal_bytes, predicate_bytes, predicate_file_bytes, vector_bytes, vector_file_bytes, Facts,
-    Kind, Lanes, Machine, Refusal, LENGTHS, MOST_JOURNAL_BYTES,
+    journal_bytes, predicate_bytes, predicate_file_bytes, session_bytes, vector_bytes,
+    vector_file_bytes, Facts, Lanes, Machine, Predicate, Refusal, Register, Row, Size, Vector,
+    LENGTHS, MOST_JOURNAL_BYTES,
 };
 use random::Random;
+use reference::Asked;
 
 /// Words of every family, and one that is undefined now and then.
 fn words(random: &mut Random) -> Vec<u32> {
@@ -55,8 +57,8 @@ impl Beside {
         let mut machine = Machine::with_room(k, facts, &words, bytes).expect("a machine");
         assert_eq!(machine.facts(), facts);
         for number in 0..4 {
-            random.fill(machine.register_mut(Kind::Vector, number).expect("a register"));
-            random.fill(machine.register_mut(Kind::Predicate, number).expect("a register"));
+            random.fill(machine.register_mut(Vector::ALL[number]));
+            random.fill(machine.register_mut(Predicate::ALL[number]));
         }
         Beside {
             z: machine.vectors().to_vec(),
@@ -83,9 +85,17 @@ impl Beside {
                 let text = reference::text(word.word, facts, &mut out);
                 let text = text.map(|length| String::from_utf8_lossy(&out[..length]).into_owned());
                 assert_eq!(self.machine.text(self.position), text);
+                let row = reference::decode(word.word, facts).map(|fields| fields.row);
+                let fields = self.machine.fields(self.position);
+                assert_eq!(fields.map(|fields| fields.row.number()), row);
+                // The core lacks exactly the words that all facts would accept.
+                let there = reference::decode(word.word, Facts::ALL).is_ok();
+                assert_eq!(self.machine.lacks(self.position).is_some(), row.is_err() && there);
             }
             Err(refusal) => {
                 assert_eq!(self.machine.line(self.position, answer), Err(refusal));
+                assert_eq!(self.machine.fields(self.position), Err(refusal));
+                assert_eq!(self.machine.lacks(self.position), None);
             }
         }
         self.position += usize::from(answer.is_ok());
@@ -93,8 +103,14 @@ impl Beside {
 
     fn back(&mut self) {
         let k = self.machine.k();
+        let last = self.machine.last_entry().map(|entry| (entry.target, entry.old.to_vec()));
         let answer = self.machine.back();
         assert_eq!(answer, reference::back(k, &mut self.z, &self.p, &mut self.journal));
+        // The last entry is what is restored, and there is one exactly where a step is taken back.
+        assert_eq!(answer.is_ok(), last.is_some());
+        if let Some((target, old)) = last {
+            assert_eq!(self.machine.register(target), old);
+        }
         self.position -= usize::from(answer.is_ok());
     }
 
@@ -107,13 +123,57 @@ impl Beside {
         assert_eq!(machine.position(), *position);
 
         let k = machine.k();
+        let Lanes { source, predicate, size } = lanes;
+        let asked =
+            Asked { source: source.number(), predicate: predicate.number(), size: size.number() };
         let mut panel = [0; 256];
-        let answer = reference::panel(k, z, p, lanes, &mut panel).map(|()| panel.to_vec());
+        let answer = reference::panel(k, z, p, asked, &mut panel).map(|()| panel.to_vec());
         assert_eq!(machine.panel(lanes).map(|rows| rows.concat()), answer);
         for signed in [false, true] {
-            let answer = reference::subtotal(k, z, p, lanes, signed, 1..2 * k);
+            let answer = reference::subtotal(k, z, p, asked, signed, 1..2 * k);
             assert_eq!(machine.subtotal(lanes, signed, 1..2 * k), answer);
+            let many = (16 * k) >> asked.size;
+            let all = (0..=many).map(|lane| reference::read_lane(k, z, p, asked, signed, lane));
+            let all: Vec<_> = all.collect();
+            assert!(machine.lanes(lanes, signed).map(Ok).eq(all[..many].iter().copied()));
+            assert_eq!(machine.lanes(lanes, signed).len(), many);
+            for lane in [0, many - 1, many] {
+                assert_eq!(machine.lane(lanes, signed, lane), all[lane]);
+            }
+            let active = machine.lanes(lanes, signed).filter(|lane| lane.active);
+            let sum = active.fold(0, |sum: u64, lane| sum.wrapping_add(lane.value));
+            let governed = if predicate.can_govern() { Ok(sum) } else { Err(Refusal::Range) };
+            assert_eq!(machine.subtotal(lanes, signed, 0..many), governed);
         }
+        assert_eq!(machine.register(source), &z[asked.source * 16 * k..][..16 * k]);
+        assert_eq!(machine.register(predicate), &p[asked.predicate * 2 * k..][..2 * k]);
+        self.same_entries();
+        self.same_session();
+    }
+
+    /// Every entry, and the last by its own name.
+    fn same_entries(&self) {
+        let Beside { machine, journal, position, .. } = self;
+        for index in 0..=*position {
+            let told = machine.entry(index).map(|entry| {
+                assert_eq!(entry.old, &journal[entry.start..][..entry.old.len()]);
+                let target = entry.target.number();
+                assert_eq!(entry.target, Register::Vector(Vector::ALL[target]));
+                reference::Entry { target, start: entry.start, bytes: entry.old.len() }
+            });
+            assert_eq!(told, reference::read_entry(machine.k(), journal, index));
+        }
+        let last = position.checked_sub(1).map(|last| machine.entry(last).expect("an entry"));
+        assert_eq!(machine.last_entry(), last);
+    }
+
+    /// A session of what stands now.
+    fn same_session(&self) {
+        let Beside { machine, z, p, program, .. } = self;
+        let (k, facts) = (machine.k(), machine.facts().byte());
+        let mut out = vec![0; session_bytes(k, program.len() / 4)];
+        assert_eq!(reference::write_session(&mut out, k, facts, z, p, program), Ok(out.len()));
+        assert_eq!(machine.session(), out);
     }
 }
 
@@ -128,10 +188,47 @@ fn a_machine_moves_as_the_reference_does() {
             } else {
                 beside.step();
             }
-            let (source, governing) = (random.below(33), random.below(9));
-            beside.same(Lanes { source, governing, size: random.below(5) });
+            beside.same(Lanes {
+                source: random.pick(&Vector::ALL),
+                predicate: random.pick(&Predicate::ALL),
+                size: random.pick(&Size::ALL),
+            });
         }
     }
+}
+
+/// All steps are taken back, and lanes that were put before are there again.
+#[test]
+fn a_reset_machine_is_what_it_was() {
+    let mut random = Random::new(2);
+    for &k in LENGTHS.iter().cycle().take(50) {
+        let start = Beside::new(&mut random, k).machine;
+        let mut machine = start.clone();
+        machine.walk();
+        machine.reset();
+        assert_eq!(machine, start);
+        assert_eq!(
+            Machine::from_session(&machine.session()).map(|other| other.session()),
+            Ok(machine.session())
+        );
+    }
+}
+
+/// A lane and its bit, put through the machine, are those that it reads.
+#[test]
+fn what_is_put_is_read() {
+    let mut machine = Machine::new(2, Facts::NONE, &[]).expect("a machine");
+    let lanes = Lanes { source: Vector::Z31, predicate: Predicate::P15, size: Size::H };
+    assert_eq!(machine.put_lane(Vector::Z31, Size::H, 15, 0x1_FFFE), Ok(()));
+    assert_eq!(machine.put_active(Predicate::P15, Size::H, 15, true), Ok(()));
+    let lane = machine.lane(lanes, true, 15).expect("a lane");
+    assert_eq!((lane.signed(), lane.active, lane.start, lane.bit), (-2, true, 1022, 30));
+    assert_eq!(machine.lane(lanes, false, 15).map(|lane| lane.value), Ok(0xFFFE));
+    assert_eq!(machine.predicates().last(), Some(&0x40));
+    assert_eq!(machine.put_active(Predicate::P15, Size::H, 15, false), Ok(()));
+    assert_eq!(machine.predicates().last(), Some(&0));
+    assert_eq!(machine.put_lane(Vector::Z31, Size::H, 16, 0), Err(Refusal::Range));
+    assert_eq!(machine.put_active(Predicate::P0, Size::D, 4, true), Err(Refusal::Range));
 }
 
 #[test]
@@ -174,9 +271,51 @@ fn sizes_never_overflow() {
         let sizes = [vector_file_bytes(k), predicate_file_bytes(k)];
         assert!(sizes[0] >= sizes[1]);
         assert!(journal_bytes(k, usize::MAX) >= journal_bytes(k, 0));
+        assert!(session_bytes(k, usize::MAX) >= session_bytes(k, 0));
     }
     assert_eq!((vector_file_bytes(16), predicate_file_bytes(16)), (8192, 512));
     assert_eq!(journal_bytes(16, 254), 8 + 254 * 257);
+}
+
+/// Names and numbers there and back, and none past the last.
+#[test]
+fn rows_sizes_and_registers_have_their_numbers() {
+    assert_eq!(Row::ALL.len(), reference::TABLE.len());
+    for (number, (&row, of)) in Row::ALL.iter().zip(&reference::TABLE).enumerate() {
+        assert_eq!((row.number(), row.name()), (number, of.name));
+        assert_eq!(row.to_string(), format!("{:?}", row).to_lowercase());
+        assert_eq!(Row::try_from(number), Ok(row));
+    }
+    for number in 0..40 {
+        let vector = Vector::try_from(number).map(|vector| (vector.number(), vector.to_string()));
+        assert_eq!(vector.ok(), (number < 32).then(|| (number, format!("z{}", number))));
+        let predicate = Predicate::try_from(number);
+        let predicate = predicate.map(|predicate| (predicate.number(), predicate.to_string()));
+        assert_eq!(predicate.ok(), (number < 16).then(|| (number, format!("p{}", number))));
+        let size = Size::try_from(number).map(|size| (size.number(), size.bytes(), size.bits()));
+        assert_eq!(size.ok(), (number < 4).then(|| (number, 1 << number, 8 << number)));
+    }
+    let governing = Predicate::ALL.into_iter().filter(|predicate| predicate.can_govern());
+    assert_eq!(governing.collect::<Vec<_>>(), Predicate::ALL[..8]);
+    assert_eq!(Size::ALL.map(Size::letter), ['b', 'h', 's', 'd']);
+    let past = [23, 24, 256, usize::MAX].map(Row::try_from);
+    assert_eq!(past, [Err(Refusal::Range); 4]);
+}
+
+/// Every set of facts is read back from its text, and what is no fact is named.
+#[test]
+fn facts_have_their_text() {
+    for byte in 0..32 {
+        let facts = Facts::from_byte(byte);
+        assert_eq!(facts.to_string().parse(), Ok(facts));
+    }
+    assert_eq!(Facts::ALL.to_string(), "sve sve2 sve2p1 sme sme2p1");
+    assert_eq!(Facts::NONE.to_string(), "none");
+    assert_eq!(" SVE2,sve , sve".parse(), Ok(Facts::SVE2));
+    assert_eq!("".parse(), Ok(Facts::NONE));
+    let refused = "sve none".parse::<Facts>().unwrap_err();
+    let names = "sve, sve2, sve2p1, sme, sme2p1";
+    assert_eq!(refused.to_string(), format!("\"none\" is no fact: they are {}", names));
 }
 
 #[test]

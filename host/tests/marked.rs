@@ -223,7 +223,8 @@ fn run(side: &str, case: &Case, assemble: Assemble, step: Step) {
 
 fn run_all(cases: &[Case]) {
     for case in cases {
-        run("engine", case, |text, facts| ghishmadul::assemble(text, facts), ghishmadul::step);
+        let assemble: Assemble = |text, facts| Ok(ghishmadul::assemble(text, facts)?);
+        run("engine", case, assemble, ghishmadul::step);
         run("reference", case, reference::assemble, reference::step);
     }
 }

@@ -18,9 +18,10 @@ mod split;
 #[path = "../benches/bench/typed.rs"]
 mod typed;
 
-use ghishmadul::{Facts, Lanes, Refusal};
+use ghishmadul::{Facts, Refusal};
 use random::Random;
 use reached::Reached;
+use reference::Asked;
 
 #[test]
 fn the_step_for_speed_agrees() {
@@ -59,12 +60,12 @@ fn the_subtotal_by_a_split_agrees() {
     for _ in 0..20_000 {
         let k = inputs::length(&mut random);
         inputs::files(&mut random, k, &mut z, &mut p);
-        let (source, governing, size) = (random.below(33), random.below(9), random.below(5));
-        let lanes = Lanes { source, governing, size };
+        let (source, predicate, size) = (random.below(33), random.below(9), random.below(5));
+        let asked = Asked { source, predicate, size };
         let range = random.below(40)..random.below(280);
         for signed in [false, true] {
-            let answer = split::subtotal(k, &z, &p, lanes, signed, range.clone());
-            assert_eq!(answer, reference::subtotal(k, &z, &p, lanes, signed, range.clone()));
+            let answer = split::subtotal(k, &z, &p, asked, signed, range.clone());
+            assert_eq!(answer, reference::subtotal(k, &z, &p, asked, signed, range.clone()));
         }
     }
 }

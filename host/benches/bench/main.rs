@@ -12,9 +12,9 @@ mod random;
 mod split;
 mod typed;
 
-use ghishmadul::{Facts, Kind, Lanes, Refusal, LENGTHS};
+use ghishmadul::{Facts, Lane, Lanes, Predicate, Refusal, Register, Size, Vector, LENGTHS};
 use random::Random;
-use reference::{Row, TABLE};
+use reference::{Asked, Row, TABLE};
 use std::ops::Range;
 use std::time::Duration;
 
@@ -83,8 +83,15 @@ trait Calls: Steps + Sums {
     fn back(k: usize, z: &mut [u8], p: &[u8], journal: &mut [u8]) -> Result<(), Refusal>;
     fn text(word: u32, facts: Facts, out: &mut [u8]) -> Result<usize, Refusal>;
     fn assemble(text: &[u8], facts: Facts) -> Result<u32, Refusal>;
-    fn place(k: usize, z: &[u8], p: &[u8], kind: Kind, number: usize) -> Result<usize, Refusal>;
+    fn place(k: usize, z: &[u8], p: &[u8], register: Register) -> Result<usize, Refusal>;
     fn panel(k: usize, z: &[u8], p: &[u8], lanes: Lanes, out: &mut [u8]) -> Result<(), Refusal>;
+    fn lane(k: usize, z: &[u8], p: &[u8], lanes: Lanes, lane: usize) -> Result<Lane, Refusal>;
+}
+
+/// The same lanes by their numbers, as plain Rust is asked for them.
+#[inline(always)]
+fn asked(Lanes { source, predicate, size }: Lanes) -> Asked {
+    Asked { source: source.number(), predicate: predicate.number(), size: size.number() }
 }
 
 macro_rules! steps {
@@ -104,6 +111,7 @@ macro_rules! steps {
     };
 }
 
+/// Sums of plain Rust.
 macro_rules! sums {
     ($side:ident, $calls:ident) => {
         impl Sums for $side {
@@ -115,45 +123,7 @@ macro_rules! sums {
                 signed: bool,
                 range: Range<usize>,
             ) -> Result<u64, Refusal> {
-                $calls::subtotal(k, z, p, lanes, signed, range)
-            }
-        }
-    };
-}
-
-macro_rules! calls {
-    ($side:ident, $calls:ident) => {
-        impl Calls for $side {
-            fn back(k: usize, z: &mut [u8], p: &[u8], journal: &mut [u8]) -> Result<(), Refusal> {
-                $calls::back(k, z, p, journal)
-            }
-
-            fn text(word: u32, facts: Facts, out: &mut [u8]) -> Result<usize, Refusal> {
-                $calls::text(word, facts, out)
-            }
-
-            fn assemble(text: &[u8], facts: Facts) -> Result<u32, Refusal> {
-                $calls::assemble(text, facts)
-            }
-
-            fn place(
-                k: usize,
-                z: &[u8],
-                p: &[u8],
-                kind: Kind,
-                number: usize,
-            ) -> Result<usize, Refusal> {
-                $calls::register_place(k, z, p, kind, number).map(|place| place.start)
-            }
-
-            fn panel(
-                k: usize,
-                z: &[u8],
-                p: &[u8],
-                lanes: Lanes,
-                out: &mut [u8],
-            ) -> Result<(), Refusal> {
-                $calls::panel(k, z, p, lanes, out)
+                $calls::subtotal(k, z, p, asked(lanes), signed, range)
             }
         }
     };
@@ -162,14 +132,77 @@ macro_rules! calls {
 /// The linked library.
 struct Engine;
 steps!(Engine, ghishmadul);
-sums!(Engine, ghishmadul);
-calls!(Engine, ghishmadul);
+
+impl Sums for Engine {
+    fn subtotal(
+        k: usize,
+        z: &[u8],
+        p: &[u8],
+        lanes: Lanes,
+        signed: bool,
+        range: Range<usize>,
+    ) -> Result<u64, Refusal> {
+        ghishmadul::subtotal(k, z, p, lanes, signed, range)
+    }
+}
+
+impl Calls for Engine {
+    fn back(k: usize, z: &mut [u8], p: &[u8], journal: &mut [u8]) -> Result<(), Refusal> {
+        ghishmadul::back(k, z, p, journal)
+    }
+
+    fn text(word: u32, facts: Facts, out: &mut [u8]) -> Result<usize, Refusal> {
+        ghishmadul::text(word, facts, out)
+    }
+
+    fn assemble(text: &[u8], facts: Facts) -> Result<u32, Refusal> {
+        Ok(ghishmadul::assemble(text, facts)?)
+    }
+
+    fn place(k: usize, z: &[u8], p: &[u8], register: Register) -> Result<usize, Refusal> {
+        ghishmadul::register_place(k, z, p, register).map(|place| place.start)
+    }
+
+    fn panel(k: usize, z: &[u8], p: &[u8], lanes: Lanes, out: &mut [u8]) -> Result<(), Refusal> {
+        ghishmadul::panel(k, z, p, lanes, out)
+    }
+
+    fn lane(k: usize, z: &[u8], p: &[u8], lanes: Lanes, lane: usize) -> Result<Lane, Refusal> {
+        ghishmadul::read_lane(k, z, p, lanes, true, lane)
+    }
+}
 
 /// Plain Rust that is written to be read: the reference, but subtotals split as the engine's do.
 struct Plain;
 steps!(Plain, reference);
 sums!(Plain, split);
-calls!(Plain, reference);
+
+impl Calls for Plain {
+    fn back(k: usize, z: &mut [u8], p: &[u8], journal: &mut [u8]) -> Result<(), Refusal> {
+        reference::back(k, z, p, journal)
+    }
+
+    fn text(word: u32, facts: Facts, out: &mut [u8]) -> Result<usize, Refusal> {
+        reference::text(word, facts, out)
+    }
+
+    fn assemble(text: &[u8], facts: Facts) -> Result<u32, Refusal> {
+        reference::assemble(text, facts)
+    }
+
+    fn place(k: usize, z: &[u8], p: &[u8], register: Register) -> Result<usize, Refusal> {
+        let (kind, number) = (register.kind(), register.number());
+        reference::register_place(k, z, p, kind, number).map(|place| place.start)
+    }
+
+    fn panel(k: usize, z: &[u8], p: &[u8], lanes: Lanes, out: &mut [u8]) -> Result<(), Refusal> {
+        reference::panel(k, z, p, asked(lanes), out)
+    }
+
+    fn lane(k: usize, z: &[u8], p: &[u8], lanes: Lanes, lane: usize) -> Result<Lane, Refusal> {
+        reference::read_lane(k, z, p, asked(lanes), true, lane)
+    }
+}
 
 /// Plain Rust that is written for speed.
 struct ByHand;
@@ -190,7 +223,7 @@ struct State {
     words: Vec<u32>,
     texts: Vec<Vec<u8>>,
     /// The size of the lanes that are summed; every size by turns if there is none.
-    size: Option<usize>,
+    size: Option<Size>,
     turn: usize,
     sum: u64,
 }
@@ -233,7 +266,11 @@ impl State {
     /// The lanes whose turn it is.
     fn lanes(&mut self) -> Lanes {
         let turn = self.turn();
-        Lanes { source: turn % 32, governing: turn % 8, size: self.size.unwrap_or(turn % 4) }
+        Lanes {
+            source: Vector::ALL[turn % 32],
+            predicate: Predicate::ALL[turn % 8],
+            size: self.size.unwrap_or(Size::ALL[turn % 4]),
+        }
     }
 
     /// One step at this count.
@@ -274,17 +311,29 @@ impl State {
     fn subtotal<S: Sums>(&mut self, _: usize) {
         let lanes = self.lanes();
         let State { k, z, p, turn, sum, .. } = self;
-        let total = S::subtotal(*k, z, p, lanes, *turn % 8 < 4, 0..(16 * *k) >> lanes.size);
+        let many = ghishmadul::lane_count(*k, lanes.size);
+        let total = S::subtotal(*k, z, p, lanes, *turn % 8 < 4, 0..many);
         *sum = sum.wrapping_add(total.expect("a subtotal"));
+    }
+
+    /// All lanes of a register, one after the other.
+    fn every_lane<S: Calls>(&mut self, _: usize) {
+        let lanes = self.lanes();
+        let State { k, z, p, sum, .. } = self;
+        for number in 0..ghishmadul::lane_count(*k, lanes.size) {
+            let lane = S::lane(*k, z, p, lanes, number).expect("a lane");
+            *sum = sum.wrapping_add(lane.value ^ u64::from(lane.active));
+        }
     }
 
     /// 48 register places, a panel and 16 subtotals.
     fn redraw<S: Calls>(&mut self, _: usize) {
         let State { k, z, p, .. } = self;
-        let places: usize = (0..32)
-            .map(|number| S::place(*k, z, p, Kind::Vector, number))
-            .chain((0..16).map(|number| S::place(*k, z, p, Kind::Predicate, number)))
-            .map(|place| place.expect("a place"))
+        let vectors = Vector::ALL.into_iter().map(Register::from);
+        let predicates = Predicate::ALL.into_iter().map(Register::from);
+        let places: usize = vectors
+            .chain(predicates)
+            .map(|register| S::place(*k, z, p, register).expect("a place"))
             .sum();
         self.sum = self.sum.wrapping_add(places as u64);
         self.panel::<S>(0);
@@ -448,6 +497,7 @@ fn time_calls(timer: &Timer) {
         let state = &mut State::new(k, 0, any.clone());
         row(state, "panel", "-", [State::panel::<Engine>, State::panel::<Plain>], 0);
         row(state, "subtotal", "-", [State::subtotal::<Engine>, State::subtotal::<Plain>], 0);
+        row(state, "lanes", "-", [State::every_lane::<Engine>, State::every_lane::<Plain>], 0);
         row(state, "redraw", "-", [State::redraw::<Engine>, State::redraw::<Plain>], 0);
     }
     let state = &mut State::new(1, 0, any);
@@ -500,7 +550,7 @@ fn time_subtotals(timer: &Timer) {
         "{:8}{:>4}{:>12}{:>12}{:>8}{:>12}{:>8}",
         "lanes", "k", "engine ns", "split ns", "ratio", "loop ns", "ratio"
     );
-    for (size, name) in [".b", ".h", ".s", ".d"].iter().enumerate() {
+    for (size, name) in Size::ALL.into_iter().zip([".b", ".h", ".s", ".d"]) {
         for k in [1, 4, 16] {
             let mut state = State::new(k, 0, words(64));
             state.size = Some(size);

@@ -1,7 +1,8 @@
 //! The subtotal by the split that the paper asks for, in plain Rust: the range is split at its middle
 //! and each half summed the same way, down to single lanes.
 
-use ghishmadul::{Lanes, Refusal};
+use ghishmadul::Refusal;
+use reference::Asked;
 use std::ops::Range;
 
 /// A sum of active lanes, refused and answered as the engine's.
@@ -9,11 +10,11 @@ pub fn subtotal(
     k: usize,
     z: &[u8],
     p: &[u8],
-    lanes: Lanes,
+    asked: Asked,
     signed: bool,
     range: Range<usize>,
 ) -> Result<u64, Refusal> {
-    let Lanes { source, governing, size } = lanes;
+    let Asked { source, predicate: governing, size } = asked;
     if !k.is_power_of_two() || k > 16 {
         return Err(Refusal::Length);
     }

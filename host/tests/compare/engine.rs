@@ -2,11 +2,18 @@
 //! and the reference's answers in the same way.
 
 use ghishmadul::boundary::*;
-use ghishmadul::{Facts, Kind, Lanes, Refusal};
+use ghishmadul::{Facts, Kind, Lanes, Predicate, Refusal, Register, Size, Vector};
+use reference::Asked;
 use std::ops::Range;
 
 /// The answer number, then the values; zeros after them.
-pub type Numbers = [u64; 8];
+pub type Numbers = [u64; 19];
+
+fn all<const MANY: usize>(given: [u64; MANY]) -> Numbers {
+    let mut numbers = [0; 19];
+    numbers[..MANY].copy_from_slice(&given);
+    numbers
+}
 
 /// What a call answers with when it is done.
 pub trait Values {
@@ -15,13 +22,13 @@ pub trait Values {
 
 impl Values for () {
     fn values(&self) -> Numbers {
-        [0; 8]
+        all([0])
     }
 }
 
 impl Values for u64 {
     fn values(&self) -> Numbers {
-        [0, *self, 0, 0, 0, 0, 0, 0]
+        all([0, *self])
     }
 }
 
@@ -37,23 +44,95 @@ impl Values for usize {
     }
 }
 
+impl Values for reference::Fields {
+    fn values(&self) -> Numbers {
+        let reference::Fields { row, size, n, d, g, m, q } = *self;
+        all([0, row as u64, size as u64, n as u64, d as u64, g as u64, m as u64, q as u64])
+    }
+}
+
 impl Values for ghishmadul::Fields {
+    /// A field that is there and should not be, or is not and should, has a number that none has.
     fn values(&self) -> Numbers {
         let ghishmadul::Fields { row, size, n, d, g, m, q } = *self;
-        [0, row as u64, size as u64, n as u64, d as u64, g as u64, m as u64, q as u64]
+        let about = reference::read_row(row.number()).expect("a row");
+        let field = |number: Option<usize>, there: bool| match number {
+            _ if number.is_some() != there => usize::MAX,
+            _ => number.unwrap_or(0),
+        };
+        reference::Fields {
+            row: row.number(),
+            size: size.number(),
+            n: n.number(),
+            d: d.number(),
+            g: field(g.map(Predicate::number), about.has_g),
+            m: field(m.map(Vector::number), about.has_m),
+            q: field(q.map(usize::from), about.has_q),
+        }
+        .values()
     }
 }
 
 impl Values for ghishmadul::Place {
     fn values(&self) -> Numbers {
         let predicate = u64::from(self.kind == Kind::Predicate);
-        [0, predicate, self.start as u64, self.bytes as u64, 0, 0, 0, 0]
+        all([0, predicate, self.start as u64, self.bytes as u64])
+    }
+}
+
+impl Values for ghishmadul::Lane {
+    fn values(&self) -> Numbers {
+        let ghishmadul::Lane { value, active, start, bit } = *self;
+        assert_eq!(self.signed() as u64, value);
+        all([0, value, u64::from(active), start as u64, bit as u64])
+    }
+}
+
+impl Values for reference::Entry {
+    fn values(&self) -> Numbers {
+        all([0, self.target as u64, self.start as u64, self.bytes as u64])
+    }
+}
+
+impl Values for reference::About {
+    fn values(&self) -> Numbers {
+        let reference::About { signed, has_g, has_m, has_q, reads_destination, .. } = *self;
+        let flags = [signed, has_g, has_m, has_q, reads_destination].map(u64::from);
+        let bytes = [self.n_bytes, self.m_bytes, self.d_bytes];
+        about(flags, self.need.into(), bytes.map(|widths| widths.map(|bytes| bytes as u64)))
+    }
+}
+
+/// A row's flags, its need and its widths after each other.
+fn about(flags: [u64; 5], need: u64, widths: [[u64; 4]; 3]) -> Numbers {
+    let mut numbers = [0; 19];
+    numbers[1..6].copy_from_slice(&flags);
+    numbers[6] = need;
+    numbers[7..].copy_from_slice(&widths.concat());
+    numbers
+}
+
+impl Values for ghishmadul::About {
+    fn values(&self) -> Numbers {
+        let ghishmadul::About { signed, has_g, has_m, has_q, reads_destination, need, .. } = *self;
+        let flags = [signed, has_g, has_m, has_q, reads_destination].map(u64::from);
+        let bytes = |size: Option<Size>| size.map_or(0, |size| size.bytes() as u64);
+        let widths = Size::ALL.map(|size| self.widths(size));
+        about(
+            flags,
+            need.byte().into(),
+            [
+                widths.map(|widths| bytes(widths.map(|widths| widths.n))),
+                widths.map(|widths| bytes(widths.and_then(|widths| widths.m))),
+                widths.map(|widths| bytes(widths.map(|widths| widths.d))),
+            ],
+        )
     }
 }
 
 impl Values for ghishmadul::Word {
     fn values(&self) -> Numbers {
-        [0, u64::from(self.word), self.at as u64, 0, 0, 0, 0, 0]
+        all([0, u64::from(self.word), self.at as u64])
     }
 }
 
@@ -63,29 +142,38 @@ impl Values for ghishmadul::Session {
         let Facts { sve, sve2, sve2p1, sme, sme2p1 } = facts;
         let bits = [sme2p1, sme, sve2p1, sve2, sve].map(u64::from);
         let facts = bits.into_iter().fold(0, |facts, bit| facts << 1 | bit);
-        [0, k as u64, count as u64, vectors as u64, predicates as u64, program as u64, facts, 0]
+        all([0, k as u64, count as u64, vectors as u64, predicates as u64, program as u64, facts])
     }
 }
 
 pub fn numbers<T: Values>(answer: Result<T, Refusal>) -> Numbers {
     match answer {
         Ok(value) => value.values(),
-        Err(refusal) => [refusal.number(), 0, 0, 0, 0, 0, 0, 0],
+        Err(refusal) => number(refusal.number()),
     }
 }
 
 fn answer(Answer { number, value }: Answer) -> Numbers {
-    [number, value, 0, 0, 0, 0, 0, 0]
+    all([number, value])
 }
 
 fn number(number: u64) -> Numbers {
-    [number, 0, 0, 0, 0, 0, 0, 0]
+    all([number])
+}
+
+/// The lanes that are asked for, where the crate has types for them.
+fn typed(Asked { source, predicate, size }: Asked) -> Result<Lanes, Refusal> {
+    Ok(Lanes {
+        source: Vector::try_from(source)?,
+        predicate: Predicate::try_from(predicate)?,
+        size: Size::try_from(size)?,
+    })
 }
 
 /// How the engine is called.
 #[derive(Clone, Copy, Debug, PartialEq)]
 pub enum Way {
-    /// By the safe functions.
+    /// By the safe functions; numbers that no type of the crate holds go by the boundary all the same.
     Safe,
     /// By the boundary.
     Boundary,
@@ -113,7 +201,7 @@ impl Way {
             return numbers(ghishmadul::decode(word, Facts::from_byte(facts)));
         }
         let Fields { number, row, size, n, d, g, m, q } = unsafe { ln_decode(word, facts) };
-        [number, row, size, n, d, g, m, q]
+        all([number, row, size, n, d, g, m, q])
     }
 
     pub fn text(self, word: u32, facts: u8, out: &mut [u8]) -> Numbers {
@@ -125,7 +213,8 @@ impl Way {
 
     pub fn assemble(self, text: &[u8], facts: u8) -> Numbers {
         if self == Way::Safe {
-            return numbers(ghishmadul::assemble(text, Facts::from_byte(facts)));
+            let word = ghishmadul::assemble(text, Facts::from_byte(facts));
+            return numbers(word.map_err(Refusal::from));
         }
         answer(unsafe { ln_assemble(self.of(text), text.len(), facts) })
     }
@@ -190,6 +279,23 @@ impl Way {
         answer(unsafe { ln_position(k, self.of(journal), journal.len()) })
     }
 
+    pub fn read_entry(self, k: usize, journal: &[u8], index: usize) -> Numbers {
+        if self == Way::Safe {
+            return numbers(ghishmadul::read_entry(k, journal, index).map(|entry| {
+                let target = match entry.target {
+                    Register::Vector(vector) => vector.number(),
+                    Register::Predicate(_) => panic!("a predicate in an entry"),
+                };
+                let bytes = entry.old.len();
+                assert_eq!(entry.old.as_ptr(), journal[entry.start..].as_ptr(), "not a copy");
+                reference::Entry { target, start: entry.start, bytes }
+            }));
+        }
+        let Entry { number, target, start, bytes } =
+            unsafe { ln_read_entry(k, self.of(journal), journal.len(), index) };
+        all([number, target, start, bytes])
+    }
+
     /// `predicate`: every number but 0 asks for a predicate register.
     pub fn register_place(
         self,
@@ -197,23 +303,69 @@ impl Way {
         z: &[u8],
         p: &[u8],
         predicate: u64,
-        register: usize,
+        index: usize,
     ) -> Numbers {
-        if self == Way::Safe {
-            let kind = if predicate == 0 { Kind::Vector } else { Kind::Predicate };
-            return numbers(ghishmadul::register_place(k, z, p, kind, register));
+        let register: Result<Register, Refusal> = match predicate {
+            0 => Vector::try_from(index).map(Register::from),
+            _ => Predicate::try_from(index).map(Register::from),
+        };
+        if let (Way::Safe, Ok(register)) = (self, register) {
+            return numbers(ghishmadul::register_place(k, z, p, register));
         }
         let Place { number, predicate, start, bytes } = unsafe {
-            ln_register_place(k, self.of(z), z.len(), self.of(p), p.len(), predicate, register)
+            ln_register_place(k, self.of(z), z.len(), self.of(p), p.len(), predicate, index)
         };
-        [number, predicate, start, bytes, 0, 0, 0, 0]
+        all([number, predicate, start, bytes])
     }
 
-    pub fn panel(self, k: usize, z: &[u8], p: &[u8], lanes: Lanes, out: &mut [u8]) -> Numbers {
-        if self == Way::Safe {
+    /// `is_signed`: every number but 0 asks for a signed lane.
+    pub fn read_lane(
+        self,
+        k: usize,
+        z: &[u8],
+        p: &[u8],
+        asked: Asked,
+        is_signed: u64,
+        lane: usize,
+    ) -> Numbers {
+        if let (Way::Safe, Ok(lanes)) = (self, typed(asked)) {
+            return numbers(ghishmadul::read_lane(k, z, p, lanes, is_signed != 0, lane));
+        }
+        let Asked { source, predicate, size } = asked;
+        let Lane { number, value, active, start, bit } = unsafe {
+            ln_read_lane(
+                k,
+                self.of(z),
+                z.len(),
+                self.of(p),
+                p.len(),
+                source,
+                predicate,
+                size,
+                is_signed,
+                lane,
+            )
+        };
+        all([number, value, active, start, bit])
+    }
+
+    pub fn read_row(self, row: usize) -> Numbers {
+        if let (Way::Safe, Ok(row)) = (self, ghishmadul::Row::try_from(row)) {
+            return numbers(Ok(row.about()));
+        }
+        let told = unsafe { ln_read_row(row) };
+        let About { is_signed, has_g, has_m, has_q, reads_destination, need, .. } = told;
+        let flags = [is_signed, has_g, has_m, has_q, reads_destination];
+        let mut numbers = about(flags, need, [told.n_bytes, told.m_bytes, told.d_bytes]);
+        numbers[0] = told.number;
+        numbers
+    }
+
+    pub fn panel(self, k: usize, z: &[u8], p: &[u8], asked: Asked, out: &mut [u8]) -> Numbers {
+        if let (Way::Safe, Ok(lanes)) = (self, typed(asked)) {
             return numbers(ghishmadul::panel(k, z, p, lanes, out));
         }
-        let Lanes { source, governing, size } = lanes;
+        let Asked { source, predicate, size } = asked;
         number(unsafe {
             ln_panel(
                 k,
@@ -222,7 +374,7 @@ impl Way {
                 self.of(p),
                 p.len(),
                 source,
-                governing,
+                predicate,
                 size,
                 self.of_mut(out),
                 out.len(),
@@ -236,14 +388,14 @@ impl Way {
         k: usize,
         z: &[u8],
         p: &[u8],
-        lanes: Lanes,
+        asked: Asked,
         is_signed: u64,
         range: Range<usize>,
     ) -> Numbers {
-        if self == Way::Safe {
+        if let (Way::Safe, Ok(lanes)) = (self, typed(asked)) {
             return numbers(ghishmadul::subtotal(k, z, p, lanes, is_signed != 0, range));
         }
-        let Lanes { source, governing, size } = lanes;
+        let Asked { source, predicate, size } = asked;
         answer(unsafe {
             ln_subtotal(
                 k,
@@ -252,7 +404,7 @@ impl Way {
                 self.of(p),
                 p.len(),
                 source,
-                governing,
+                predicate,
                 size,
                 is_signed,
                 range.start,
@@ -268,7 +420,7 @@ impl Way {
         }
         let Word { number, word, at } =
             unsafe { ln_read_word(self.of(program), program.len(), at) };
-        [number, word, at, 0, 0, 0, 0, 0]
+        all([number, word, at])
     }
 
     pub fn read_session(self, bytes: &[u8]) -> Numbers {
@@ -277,7 +429,7 @@ impl Way {
         }
         let Session { number, k, count, vectors, predicates, program, facts } =
             unsafe { ln_read_session(self.of(bytes), bytes.len()) };
-        [number, k, count, vectors, predicates, program, facts, 0]
+        all([number, k, count, vectors, predicates, program, facts])
     }
 
     #[allow(clippy::too_many_arguments)]

@@ -3,6 +3,7 @@
 //! What is lent ends right at a page that cannot be read; in a second pass it begins right after one.
 //! The variable LN_INPUTS is the number of inputs (a million), LN_SEED the seed.
 
+mod edges;
 mod engine;
 mod facts;
 mod guarded;
@@ -10,11 +11,13 @@ mod inputs;
 mod lengths;
 mod random;
 mod reached;
+mod reading;
 mod sessions;
 mod tally;
+mod writing;
 
 use engine::{numbers, Numbers, Way};
-use ghishmadul::{Facts, Kind, Lanes, Refusal};
+use ghishmadul::{Facts, Kind, Refusal};
 use guarded::{Guard, Guarded};
 use random::Random;
 use reference::{facts_of, ALL};
@@ -26,7 +29,8 @@ use tally::{Call, Tally};
 const MOST: usize = 70_000;
 
 /// So many inputs reach every answer of every call, every length that is refused, steps of every row, size
-/// and destination, every set of facts, and every kind of session; fewer may miss some.
+/// and destination, every set of facts, every kind of session, and every lane, entry and row at an end or past
+/// it; fewer may miss some.
 const ENOUGH: u64 = 100_000;
 
 const UNDEFINED: u64 = 8;
@@ -446,27 +450,20 @@ impl<'a> Comparison<'a> {
         let way = self.way();
         let k = self.some_files();
         let predicate = self.random.pick(&[0, 0, 0, 1, 1, 2, 256, 1 << 32, u64::MAX]);
-        let register = self.mostly_below(if predicate == 0 { 32 } else { 16 });
+        let index = self.mostly_below(if predicate == 0 { 32 } else { 16 });
         let engine =
-            way.register_place(k, self.engine.z.part(), self.engine.p.part(), predicate, register);
+            way.register_place(k, self.engine.z.part(), self.engine.p.part(), predicate, index);
         let Parts { z, p, .. } = &self.parts;
         let kind = if predicate == 0 { Kind::Vector } else { Kind::Predicate };
-        let reference = numbers(reference::register_place(k, z, p, kind, register));
-        self.same(Call::RegisterPlace, engine, reference, &[k, predicate as usize, register]);
+        let reference = numbers(reference::register_place(k, z, p, kind, index));
+        self.same(Call::RegisterPlace, engine, reference, &[k, predicate as usize, index]);
         self.agree(Call::RegisterPlace, &["z", "p"]);
-    }
-
-    fn lanes(&mut self) -> Lanes {
-        let source = self.mostly_below(32);
-        let governing = self.mostly_below(8);
-        let size = self.mostly_below(4);
-        Lanes { source, governing, size }
     }
 
     fn panel(&mut self) {
         let way = self.way();
         let k = self.some_files();
-        let lanes = self.lanes();
+        let asked = self.asked(8);
         let bytes = match self.random.below(20) {
             0 => self.random.below(256),
             1 => 255,
@@ -476,10 +473,10 @@ impl<'a> Comparison<'a> {
         inputs::content(&mut self.random, &mut self.parts.out, bytes);
         self.engine.out.set(&self.parts.out);
         let engine =
-            way.panel(k, self.engine.z.part(), self.engine.p.part(), lanes, self.engine.out.part());
+            way.panel(k, self.engine.z.part(), self.engine.p.part(), asked, self.engine.out.part());
         let Parts { z, p, out, .. } = &mut self.parts;
-        let reference = numbers(reference::panel(k, z, p, lanes, out));
-        let given = [k, lanes.source, lanes.governing, lanes.size];
+        let reference = numbers(reference::panel(k, z, p, asked, out));
+        let given = [k, asked.source, asked.predicate, asked.size];
         self.same(Call::Panel, engine, reference, &given);
         self.agree(Call::Panel, &["z", "p", "out"]);
     }
@@ -487,9 +484,9 @@ impl<'a> Comparison<'a> {
     fn subtotal(&mut self) {
         let way = self.way();
         let k = self.some_files();
-        let lanes = self.lanes();
-        let is_signed = self.random.pick(&[0, 0, 0, 1, 1, 2, 256, 1 << 32, u64::MAX]);
-        let many = if k <= 17 { (16 * k) >> lanes.size.min(3) } else { 16 };
+        let asked = self.asked(8);
+        let is_signed = self.is_signed();
+        let many = if k <= 17 { (16 * k) >> asked.size.min(3) } else { 16 };
         let mut a = self.mostly_below(many + 1);
         let mut b = self.mostly_below(many + 1);
         if a > b && !self.random.one_in(20) {
@@ -499,10 +496,10 @@ impl<'a> Comparison<'a> {
             (a, b) = self.random.pick(&[(0, many), (a, a), (b, b)]);
         }
         let engine =
-            way.subtotal(k, self.engine.z.part(), self.engine.p.part(), lanes, is_signed, a..b);
+            way.subtotal(k, self.engine.z.part(), self.engine.p.part(), asked, is_signed, a..b);
         let Parts { z, p, .. } = &self.parts;
-        let reference = numbers(reference::subtotal(k, z, p, lanes, is_signed != 0, a..b));
-        let given = [k, lanes.source, lanes.governing, lanes.size, is_signed as usize, a, b];
+        let reference = numbers(reference::subtotal(k, z, p, asked, is_signed != 0, a..b));
+        let given = [k, asked.source, asked.predicate, asked.size, is_signed as usize, a, b];
         self.same(Call::Subtotal, engine, reference, &given);
         self.agree(Call::Subtotal, &["z", "p"]);
     }
@@ -584,19 +581,26 @@ impl<'a> Comparison<'a> {
         while self.tally.total() < until {
             self.go_on();
             match self.random.below(100) {
-                0..=14 => self.decode(),
-                15..=28 => self.text(),
-                29..=48 => self.assemble(),
-                49..=50 => self.position(),
-                51..=52 => self.fresh(),
-                53..=63 => self.step(),
-                64..=69 => self.back(),
-                70..=74 => self.register_place(),
-                75..=80 => self.panel(),
-                81..=88 => self.subtotal(),
-                89..=91 => self.read_word(),
-                92..=94 => self.read_session(),
-                95..=98 => self.write_line(),
+                0..=10 => self.decode(),
+                11..=20 => self.text(),
+                21..=36 => self.assemble(),
+                37..=38 => self.position(),
+                39..=40 => self.fresh(),
+                41..=51 => self.step(),
+                52..=57 => self.back(),
+                58..=61 => self.register_place(),
+                62..=66 => self.panel(),
+                67..=72 => self.subtotal(),
+                73..=75 => self.read_word(),
+                76..=78 => self.read_session(),
+                79..=82 => self.write_line(),
+                83..=88 => self.read_lane(),
+                89..=91 => self.read_entry(),
+                92..=93 => self.read_row(),
+                94..=95 => self.put_lane(),
+                96 => self.put_active(),
+                97..=98 => self.write_session(),
+                _ if self.random.one_in(50) => self.version(),
                 _ => self.moves(),
             }
         }
@@ -644,7 +648,7 @@ fn inputs_of_every_call_agree() {
         say(&format!("not reached by these inputs: {}", missing));
         assert!(
             inputs < ENOUGH,
-            "so many inputs reach every answer, length, row, set of facts and session"
+            "so many inputs reach every answer, length, row, set of facts, session, lane and entry"
         );
     }
 }

@@ -1,6 +1,7 @@
 //! How often each call gave each answer, which lengths were refused, which words were stepped, under
-//! which facts, and which sessions were read.
+//! which facts, which sessions were read, and which lanes, entries and rows were asked for.
 
+use crate::edges::Edges;
 use crate::facts::UnderFacts;
 use crate::lengths::{self, Lengths};
 use crate::reached::Reached;
@@ -23,10 +24,17 @@ pub enum Call {
     ReadWord,
     ReadSession,
     WriteLine,
+    ReadLane,
+    ReadEntry,
+    ReadRow,
+    Version,
+    PutLane,
+    PutActive,
+    WriteSession,
 }
 
 /// Each call's name, and the refusals that it can give.
-const CALLS: [(&str, &[usize]); 13] = [
+const CALLS: [(&str, &[usize]); 20] = [
     ("decode", &[7, 8]),
     ("text", &[7, 8, 11]),
     ("assemble", &[12]),
@@ -40,6 +48,13 @@ const CALLS: [(&str, &[usize]); 13] = [
     ("read_word", &[3, 6]),
     ("read_session", &[14]),
     ("write_line", &[1, 2, 3, 6, 7, 8, 11]),
+    ("read_lane", &[1, 2, 13]),
+    ("read_entry", &[1, 4, 5, 13]),
+    ("read_row", &[13]),
+    ("version", &[]),
+    ("put_lane", &[1, 2, 13]),
+    ("put_active", &[1, 2, 13]),
+    ("write_session", &[1, 2, 3, 11]),
 ];
 
 /// The refusals of a length: LENGTH, and SESSION where a session is read.
@@ -52,6 +67,7 @@ pub struct Tally {
     steps: Reached,
     facts: UnderFacts,
     sessions: Sessions,
+    edges: Edges,
 }
 
 impl Tally {
@@ -80,12 +96,17 @@ impl Tally {
         self.sessions.count(bytes);
     }
 
+    /// Where the lanes, entries and rows that were asked for are counted.
+    pub fn edges(&mut self) -> &mut Edges {
+        &mut self.edges
+    }
+
     pub fn total(&self) -> u64 {
         self.counts.iter().flatten().sum()
     }
 
     /// A line for each call: its answers by number; then the lengths that were refused, the words that were
-    /// stepped, the facts and the sessions.
+    /// stepped, the facts, the sessions and what was asked for.
     pub fn table(&self) -> String {
         let mut table = format!("{:15}{:>9}", "call", "done");
         for number in 1..15 {
@@ -101,7 +122,8 @@ impl Tally {
                 }
             }
         }
-        let further = [self.steps.table(), self.facts.table(), self.sessions.table()];
+        let further =
+            [self.steps.table(), self.facts.table(), self.sessions.table(), self.edges.table()];
         table + "\n\n" + &self.refused_lengths() + "\n\n" + &further.join("\n\n")
     }
 
@@ -123,7 +145,8 @@ impl Tally {
     }
 
     /// For each call the answers that it can give and that never came, and the lengths that it never
-    /// refused; and the words never stepped, the facts never asked and the sessions never read.
+    /// refused; and the words never stepped, the facts never asked, the sessions never read, and the lanes,
+    /// entries and rows never asked for.
     pub fn missing(&self) -> Vec<String> {
         let calls = CALLS.iter().zip(&self.counts);
         let answers =
@@ -131,7 +154,12 @@ impl Tally {
         let lengths = self.by_length().flat_map(|(name, lengths)| {
             lengths.missing().into_iter().map(move |k| format!("{} k {}", name, k))
         });
-        let further = [self.steps.missing(), self.facts.missing(), self.sessions.missing()];
+        let further = [
+            self.steps.missing(),
+            self.facts.missing(),
+            self.sessions.missing(),
+            self.edges.missing(),
+        ];
         answers.chain(lengths).chain(further.into_iter().flatten()).collect()
     }
 }
