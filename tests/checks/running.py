@@ -198,7 +198,7 @@ SIZE = "it is one of the twenty-three instructions, with a size that is not allo
 
 
 def reasons(walked):
-    """Why a word is answered with 8: a fact that the core has not, for a word of each row, or the size, or both. python3 is not needed."""
+    """Why a word is answered with 8: its size, on every core, or else a fact that the core has not, for a word of each row. python3 is not needed."""
     dice = random.Random(7)
     for row in words.TABLE:
         name, need = row[0], facts.need(row[0])
@@ -207,7 +207,7 @@ def reasons(walked):
         others = 31 - facts.bits(need)  # all facts but those needed
         for core, word, reason in (
             (others, need and fits, lacks),
-            (others, wrong, "its size is not allowed; besides, " + lacks if need else SIZE),
+            (others, wrong, SIZE),
             (facts.bits(need[:1]), wrong, SIZE),
             (facts.bits(need[1:]), wrong, SIZE),
         ):
