@@ -5,7 +5,8 @@ SIGNALS = (signal.SIGHUP, signal.SIGINT, signal.SIGTERM)
 
 
 def by_signals():
-    """From here on an interrupt ends the program by itself, as other signals do, and not by python's exception with its traceback."""
+    """From here on an interrupt ends the program by itself, as other signals do, and not by python's exception with its traceback. A program
+    that wants it earlier does the same before its first import."""
     if signal.getsignal(signal.SIGINT) is signal.default_int_handler:
         signal.signal(signal.SIGINT, signal.SIG_DFL)
 
