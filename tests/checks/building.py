@@ -82,26 +82,35 @@ def together(checkout):
         out, err = run.communicate(timeout=120)
         expect((run.returncode, out, err.decode()) == (3, paper, NOTE), "one of eight in a built checkout:", err)
     expect(checkout.called() == 0, "one of eight calls rt in a built checkout")
+    one_builds(checkout.unbuilt(), "run: the program walk is not built yet: ")
+    os.remove(checkout.at("target/run.stamp"))
+    one_builds(checkout, "run: walk's crates have changed since it was built: ")
+
+
+def one_builds(checkout, first):
+    """Of eight runs one begins with these words and calls rt, which ends only when the seven others have said that they wait."""
     released = os.path.join(checkout.room, "released")
-    started = [checkout.unbuilt().start("waits", RELEASED=released) for _ in range(8)]
+    started = [checkout.start("waits", RELEASED=released) for _ in range(8)]
     try:
         said = [first_line(run) for run in started]
         with open(released, "w"):
             pass
         rest = [run.communicate(timeout=120) for run in started]
     finally:
+        os.remove(released)
         for run in started:
             run.kill()
-    for line, run, (out, err) in zip(said, started, rest):
-        end = NOTE if "waits" in line else "rt: machine proved (9 s)\nrt: walk proved (10 s)\n" + NOTE
-        expect((run.returncode, out, err.decode()) == (3, paper, end), "one of eight that build:", err)
     waiting = "run: another run is building walk in this checkout: this one waits for it\n"
-    expect(sorted(said)[:7] == [waiting] * 7 and "is not built yet" in sorted(said)[7], "eight at once say", said)
+    builders = [line for line in said if line != waiting]
+    expect(len(builders) == 1 and builders[0].startswith(first), "eight at once say", said)
+    for line, run, (out, err) in zip(said, started, rest):
+        end = NOTE if line == waiting else "rt: machine proved (9 s)\nrt: walk proved (10 s)\n" + NOTE
+        expect((run.returncode, out, err.decode()) == (3, paper, end), "one of eight that build:", err)
     expect(checkout.called() == 1, "rt is called more than once for eight runs")
 
 
 def first_line(run):
-    """The first line that a run says, read letter by letter, so that the rest is left for later."""
+    """The first line that a run says; it is read letter by letter, so that the rest is left for later."""
     line, letter = b"", b"any"
     while letter not in (b"\n", b""):
         letter = os.read(run.stderr.fileno(), 1)
@@ -127,6 +136,7 @@ def missing(checkout):
     os.symlink(os.path.join(checkout.tools, "rt"), os.path.join(checkout.bare, "rt"))
     one_line(checkout.run("", **nothing), "the program walk is not built, and a build needs flock and setsid (on Debian: apt-get install util-linux)")
     silent(checkout.built().run("fails", **nothing))
+    unlockable(checkout)
     other_processor(checkout)
     none = os.path.join(checkout.room, "none")
     one_line(checkout.run("fails", TMPDIR=none), "no folder for temporary files could be made in " + none)
@@ -135,6 +145,14 @@ def missing(checkout):
     os.remove(os.path.join(checkout.bare, "bash"))
     one_line(checkout.run("fails", sh=shutil.which("sh"), **nothing), "this script needs bash, and there is none on the PATH")
     os.symlink(shutil.which("bash"), os.path.join(checkout.bare, "bash"))
+
+
+def unlockable(checkout):
+    """Where the file system has no locks a build goes on without one, and says so; what is built runs in silence."""
+    checkout.write(os.path.join(checkout.tools, "flock"), "#!/bin/sh\necho 'flock: 9: No locks available' >&2\nexit 71\n", 0o755)
+    silent(checkout.run("fails"))
+    checkout.unbuilt().run("builds").expect(3, "run: this checkout cannot be locked (9: No locks available): another run", out=paper)
+    os.remove(os.path.join(checkout.tools, "flock"))
 
 
 def other_processor(checkout):

@@ -8,6 +8,7 @@ import sys
 import tempfile
 import time
 
+from .building import first_line
 from .checkout import Checkout
 from .common import expect, place, read
 
@@ -26,6 +27,7 @@ def check():
             checkout.env.update([MARK.split("=")])
             walking(checkout.built())
             building(checkout)
+            waiting(checkout)
             half_written(checkout)
             killed(checkout)
             reading(room)
@@ -96,6 +98,20 @@ def building(checkout):
         said = (BEGUN + STOPPED,) if number >= 20 else ("", BEGUN, BEGUN + STOPPED)
         expect(run.returncode == -one and out == b"" and err.decode() in said, "signal", str(one), "ends a build with", str(run.returncode), err)
         nothing_left(checkout, "while it builds, after signal", str(one))
+
+
+def waiting(checkout):
+    """A run that waits for another's build ends by itself, and the build goes on."""
+    builds = checkout.unbuilt().start("endless")
+    await_rt(checkout)
+    waits = checkout.start("endless")
+    expect("waits for it" in first_line(waits), "a second run does not wait")
+    waits.send_signal(signal.SIGTERM)
+    expect(waits.communicate(timeout=120) == (b"", b"") and waits.returncode == -signal.SIGTERM, "a run that waits ends with", str(waits.returncode))
+    expect(builds.poll() is None and left() != [], "the build has ended with a run that waited for it")
+    builds.send_signal(signal.SIGTERM)
+    builds.communicate(timeout=120)
+    nothing_left(checkout, "after a build with another run")
 
 
 def await_rt(checkout):
