@@ -31,6 +31,7 @@ def check():
             half_written(checkout)
             killed(checkout)
             reading(room)
+        starting()
         written_whole()
     finally:
         for one, handler in zip(SIGNALS, former):
@@ -166,6 +167,24 @@ def reading(room):
             started.send_signal(signal.SIGINT)
             out, err = started.communicate(timeout=120)
         expect((started.returncode, out, err) == (-signal.SIGINT, b"", b""), program, "ends by an interrupt with", str(started.returncode), err)
+
+
+STARTS = """
+import os, runpy, sys
+class Interrupts:
+    def find_spec(self, name, *_):
+        if name == "sessions":
+            os.kill(os.getpid(), 2)
+sys.meta_path.insert(0, Interrupts())
+runpy.run_path(sys.argv[1], run_name="__main__")
+"""
+
+
+def starting():
+    """An interrupt at the first import of their own ends them in silence too."""
+    for program in ("make-session", "show-session"):
+        done = subprocess.run([sys.executable, "-c", STARTS, place("bin", program)], stderr=subprocess.PIPE, check=False)
+        expect((done.returncode, done.stderr) == (-signal.SIGINT, b""), program, "starts with", str(done.returncode), done.stderr)
 
 
 WRITES = """
