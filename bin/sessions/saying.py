@@ -5,6 +5,8 @@ import os
 import stat
 import sys
 
+from . import ending
+
 UNREADABLE, USAGE, REFUSED = 1, 2, 3
 MOST_INPUT = 1 << 20  # more than any session or text for one needs
 
@@ -88,23 +90,34 @@ def write_output(path, data):
         raise Stop(UNREADABLE, "the name of the file to write is empty")
     to = "standard output" if path is None else shown_path(path)
     try:
-        handle = 1 if path is None else os.open(path, os.O_WRONLY | os.O_CREAT | os.O_TRUNC, 0o666)
-        while data:
-            data = data[os.write(handle, data):]
-        if path is not None:
-            os.close(handle)
+        if path is None:
+            write_all(1, data)
+        elif os.path.exists(path) and not os.path.isfile(path):
+            write_file(path, data)  # a pipe or a terminal, which may wait for its reader
+        else:
+            with ending.Later():
+                write_file(path, data)
     except (OSError, ValueError) as error:
         raise Stop(UNREADABLE, "%s could not be written: %s" % (to, error_text(error)))
 
 
+def write_file(path, data):
+    handle = os.open(path, os.O_WRONLY | os.O_CREAT | os.O_TRUNC, 0o666)
+    write_all(handle, data)
+    os.close(handle)
+
+
+def write_all(handle, data):
+    while data:
+        data = data[os.write(handle, data):]
+
+
 def run(name, main):
-    """Runs a program of bin/ and gives its exit status; every end has its line."""
+    """Runs a program of bin/ and gives its exit status; every end has its line, but for that by a signal."""
+    ending.by_signals()
     try:
         main(sys.argv[1:])
     except Stop as stop:
         say("%s: %s" % (name, stop))
         return stop.status
-    except KeyboardInterrupt:
-        say("%s: stopped" % name)
-        return 130
     return 0

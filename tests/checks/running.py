@@ -1,13 +1,12 @@
-"""The script run: sessions told by their mark, statuses, refusals by name, links, folders and outputs of every kind, and what it says while
-the crates of walk are proved (with a stand-in for the toolchain's rt, so that nothing is proved here)."""
+"""The script run: sessions told by their mark, statuses, refusals by name and reason, links, folders and outputs of every kind."""
 import os
 import random
-import shutil
 import struct
 import tempfile
 
 from . import facts, words
-from .common import WALK, Ran, expect, place, read, run, walk
+from .checkout import Checkout
+from .common import Ran, expect, place, read, run, walk
 
 PAPER = ("examples", "paper.session")
 TEXT = b"k 1\nz1.b 1 2\np0.b all\nprogram\nsaddv d0, p0, z1.b\n"
@@ -23,7 +22,7 @@ def check():
         outputs()
         lanes()
         links(room)
-        building(room)
+        explained(Checkout(room).built(), os.path.join(room, "facts.session"))
 
 
 def told_by_mark(room):
@@ -134,71 +133,23 @@ def links(room):
         Ran([path], cwd="/").expect(3, "8 UNDEFINED", out=read("examples/paper.expected"))
 
 
-RT = """#!/bin/sh
-# a stand-in for rt: it builds by copying, and says what rt would say
-[ "$1" = doc ] && PATH=$REAL_PATH exec "$REAL_RT" doc
-case $WHAT in
-proved) echo 'fn machine::check_length: proved'; echo 'rt: machine proved (9 s)'; echo 'rt: walk proved (10 s)'; mkdir -p target/bin target/stamp; cp "$REAL_WALK" target/bin/walk; : >target/stamp/walk ;;
-slow) sleep 4; echo 'rt: machine proved (unchanged since it was last proved)'; echo 'rt: walk proved (5 s)' ;;
-kept) echo 'rt: machine proved (unchanged since it was last proved)'; echo 'rt: walk proved (unchanged since it was last proved)' ;;
-fails) echo 'rt: walk NOT PROVED (exit 1, 2 s)'; exit 1 ;;
-esac
-echo 'rt: ok, 10 crates proved'
-"""
-
-
-def building(room):
-    """What run says while walk is built, in a copy of the scripts."""
-    copy, tools = os.path.join(room, "copy"), os.path.join(room, "tools")
-    os.mkdir(copy)
-    os.mkdir(tools)
-    shutil.copy(place("run"), copy)
-    for folder in ("bin", "examples"):
-        shutil.copytree(place(folder), os.path.join(copy, folder))
-    with open(os.path.join(tools, "rt"), "w") as file:
-        file.write(RT)
-    os.chmod(os.path.join(tools, "rt"), 0o755)
-    env = dict(os.environ, PATH=tools + ":" + os.environ["PATH"], REAL_PATH=os.environ["PATH"], REAL_WALK=WALK[-1],
-               REAL_RT=shutil.which("rt") or "rt")
-    paper = read("examples/paper.expected")
-
-    def built(what, *args, **more):
-        return Ran(["bash", os.path.join(copy, "run"), *args], env=dict(env, WHAT=what, **more))
-
-    built("fails").expect(1, "not built yet", "rt: walk NOT PROVED (exit 1, 2 s)", "could not be built", out=b"")
-    first = built("proved").expect(3, out=paper).err.split("\n")
-    expect(first[0].startswith("run: the program walk is not built yet") and "about three minutes" in first[0], "the first line is", first[0])
-    expect(first[1:3] == ["rt: machine proved (9 s)", "rt: walk proved (10 s)"], "the crates are not shown:", first)
-    kept = built("kept").expect(3, out=paper).err.split("\n")
-    expect(kept[0].startswith("run: word 3") and kept[1:] == [""], "something is said where nothing was to be done:", kept)
-    slow = built("slow").expect(3, out=paper).err.split("\n")
-    expect("have changed since it was built" in slow[0] and slow[1] == "rt: walk proved (5 s)", "a second build says", slow)
-    bare = os.path.join(room, "bare")
-    os.mkdir(bare)
-    for name in "bash cat dirname head mktemp od readlink rm sed tail tee tr uname wc".split():
-        os.symlink(shutil.which(name), os.path.join(bare, name))
-    built("kept", PATH=bare).expect(1, "rt is not on the PATH", out=b"")
-    built("kept", os.path.join(copy, "examples/paper.txt"), PATH=bare).expect(1, "needs python3", out=b"")
-    built("kept", "--lanes", PATH=bare).expect(1, "--lanes needs python3", out=b"")
-    os.symlink(os.path.join(tools, "rt"), os.path.join(bare, "rt"))
-    built("kept", PATH=bare).expect(3, "8 UNDEFINED", out=paper)
-    built("kept", TMPDIR=os.path.join(room, "none")).expect(1, "temporary files", out=b"")
-
-    def walked(data):
-        path = os.path.join(room, "facts.session")
+def explained(checkout, path):
+    """The reasons of refusals, in a copy that has walk and neither rt nor python3."""
+    def walked(data, **more):
         with open(path, "wb") as file:
             file.write(data)
-        return built("kept", path, PATH=bare)
+        return checkout.run("", path, PATH=checkout.bare, **more)
 
     reasons(walked)
     no_session(walked)
+    asked(checkout, walked)
 
 
 SIZE = "it is one of the twenty-three instructions, with a size that is not allowed"
 
 
 def reasons(walked):
-    """Why a word is answered with 8: a fact that the core has not, for a word of each row, or the size, or both. python3 is not needed."""
+    """Why a word is answered with 8: its size, on every core, or else a fact that the core has not, for a word of each row. python3 is not needed."""
     dice = random.Random(7)
     for row in words.TABLE:
         name, need = row[0], facts.need(row[0])
@@ -207,7 +158,7 @@ def reasons(walked):
         others = 31 - facts.bits(need)  # all facts but those needed
         for core, word, reason in (
             (others, need and fits, lacks),
-            (others, wrong, "its size is not allowed; besides, " + lacks if need else SIZE),
+            (others, wrong, SIZE),
             (facts.bits(need[:1]), wrong, SIZE),
             (facts.bits(need[1:]), wrong, SIZE),
         ):
@@ -215,6 +166,23 @@ def reasons(walked):
                 lines = b"0 0 uaddlv h2, v1.8b %s\n1 8 %08x\n" % (b"0" * 32, word)
                 said = walked(facts.session(core, [0x2E303822, word])).expect(3, out=lines).err
                 expect(said == "run: word 1, %08x, is refused with 8 UNDEFINED: %s; the walk ends there\n" % (word, reason), said)
+
+
+# a stand-in for walk, to which one instruction needs whatever facts are in the byte $NEED
+WALKS = """#!/bin/sh
+facts=$(head -c 9 | tail -c 1 | od -An -tu1)
+if [ $((facts & NEED)) = "$EQUAL" ]; then echo 0 8 04002020; else echo 0 0 strange z0.h 0000; fi
+"""
+
+
+def asked(checkout, walked):
+    """What a word needs is what walk says, whatever that is: run has no table of its own."""
+    checkout.write("target/bin/walk", WALKS, 0o755)
+    os.remove(checkout.at("target/run.stamp"))
+    for need, said in (("2", "strange needs SVE2, and the session's facts do not have it"),
+                       ("17", "strange needs SVE or SME2p1, and the session's facts have neither"),
+                       ("14", "strange needs SVE2 or SVE2p1 or SME, and the session's facts have none of them")):
+        walked(facts.session(0, [0x04002020]), NEED=need, EQUAL="0").expect(3, "8 UNDEFINED: %s; the walk ends there" % said)
 
 
 def no_session(walked):
