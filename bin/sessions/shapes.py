@@ -26,7 +26,8 @@ def tail_of(view):
 def across(view):
     """The source's lanes row by row, the sum, and the destination, whose lanes take as many of the source's columns as they need."""
     step, [source], [values], tail, out = view.step, view.step.sources, view.values, tail_of(view), []
-    cell = max(LEAST, widest(values + source.marks + [str(len(values) - 1)]))
+    texts, wider = values + source.marks + [str(len(values) - 1)], view.before + bare(view.after)
+    cell = max(LEAST, widest(texts + wider if step.width == source.width else texts))
     pitch = cell + len(tail) + 1
     each = fitting(min(MOST_LANES, len(values)), ROOM, pitch)
     for gone, first, last in zero_stretches(each, source.lanes):
@@ -35,8 +36,8 @@ def across(view):
         else:
             out += source_rows(source, values, first, last, cell, each, tail)
     out.append("  sum of %s: %s" % (phrases.counted(step), view.after[0]))
-    taken = -(-(widest(view.before + bare(view.after)) - cell) // pitch)
-    return out + cleared(view, range(len(step.after)), cell + taken * pitch, tail)
+    further = -(-(widest(wider) - cell) // pitch)
+    return out + cleared(view, range(len(step.after)), cell + further * pitch, tail)
 
 
 def zero_stretches(each, *registers):

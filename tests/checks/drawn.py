@@ -1,5 +1,5 @@
-"""A reader of drawn lanes. It goes by the columns in which numbers stand and by the sentences about what is not drawn, and knows nothing of the code that
-draws: what it gives back is each lane's number with its texts, and what stands beneath what."""
+"""A reader of drawn lanes. It goes by the columns in which numbers stand and by the sentences about what is not drawn, and knows nothing of the
+code that draws: what it gives back is each lane's number with its texts, and what stands beneath what."""
 import re
 from collections import namedtuple
 

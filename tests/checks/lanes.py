@@ -6,35 +6,28 @@ import os
 import random
 import re
 import tempfile
-from collections import Counter, namedtuple
+from itertools import product
 
 from sessions import drawing, layout, readable, words
 
 from .common import Failed, Ran, expect, place, read, run, walk
-from .drawn import beneath, box, gathered, places, steps_of, zeros_of
+from .drawn import steps_of
+from .meant import meant_by
+from .reading import SEEN, Reading
 from .round_trip import shapes
-
-BYTES = {"b": 1, "h": 2, "s": 4, "d": 8}
-OPERAND = re.compile(r"([bhsdvzp])(\d+)(?:/m)?(?:\.(\d*)([bhsd]))?")
-SEEN = Counter()  # which forms had sums that came round, and which had others
-
-# What a word should show: for each source its register, the bytes of a lane and each lane's mark; the destination's register and the bytes of a
-# lane; for each of its lanes the terms of its sum, None where it is kept; and which lanes are governed to be active, where a predicate governs.
-# A term is a register, the bytes of a lane, the lane, a sign, and whether it is read as a signed number.
-Meant = namedtuple("Meant", "name sources d width terms governed")
 
 
 def check():
     SEEN.clear()
     dice = random.Random(5)
-    for number, (k, sparse, pattern) in enumerate((k, sparse, pattern) for k in layout.LENGTHS for sparse in (0, 1) for pattern in PATTERNS):
+    for k, sparse, pattern in product(layout.LENGTHS, (False, True), PATTERNS):
         session = layout.Session(k, [register(dice, 16 * k, sparse) for _ in range(32)], [predicate(dice, 2 * k) for _ in range(16)],
                                  [word(dice, shape, pattern) for shape in shapes(words.EVERY_FACT)])
         lines = walk(layout.packed(session))
-        for kind in drawing.KINDS[number % 2::2]:
+        for kind in drawing.KINDS:
             expect(read_back(session, lines, drawing.drawn(session, lines.encode(), kind), kind) == len(session.words), "steps are missing")
-    for form in ("saddv", "uaddv", "addqv", "addlv", "adalp", "addl", "subl", "addw", "subw"):
-        expect(SEEN[form, True] and SEEN[form, False], "no sum, or every sum, of", form, "came round")
+    for family in ("addv", "addqv", "addlv", "adalp", "addl", "subl", "addw", "subw"):
+        expect(SEEN[family, True] and SEEN[family, False], "no sum, or every sum, of", family, "came round")
     examples()
     short()
     slips()
@@ -56,7 +49,8 @@ def word(dice, shape, pattern):
 
 def register(dice, size, sparse):
     """A register with at most three lanes that are not zero, or a full one; with the largest and the smallest numbers among them."""
-    full = b"".join(dice.choice((dice.randbytes(8), b"\xff" * 8, b"\xff" * 7 + b"\x7f", b"\0" * 7 + b"\x80", b"\xff\x7f\0\x80" * 2)) for _ in range(size // 8))
+    ends = b"\xff" * 8, b"\xff" * 7 + b"\x7f", b"\0" * 7 + b"\x80", b"\xff\x7f\0\x80" * 2
+    full = b"".join(dice.choice((dice.randbytes(8), *ends)) for _ in range(size // 8))
     if not sparse:
         return full
     data = bytearray(size)
@@ -92,250 +86,6 @@ def read_back(session, lines, shown, kind):
             raise Failed("%s, as %s with k = %d: %s" % (step.title, kind, session.k, reason))
         state[meant.d] = after
     return len(steps)
-
-
-def meant_by(title, size, predicates, as_signed):
-    """What a word should show, by its text alone; registers have `size` bytes."""
-    name, operands = title.split(" ", 3)[2:]
-    operands = [OPERAND.fullmatch(operand) for operand in operands.split(", ")]
-    numbers = [int(operand[2]) for operand in operands]
-    widths = [BYTES[operand[4] or operand[1]] if operand[1] != "p" else None for operand in operands]
-    if name[1:] in ("addv", "ddqv", "adalp"):
-        width = widths[0] if name[1:] == "adalp" else widths[2]
-        bits = int.from_bytes(predicates[numbers[1]], "little")
-        governed = [bits >> lane * width & 1 for lane in range(size // width)]
-        return GOVERNED[name[1:]](name, numbers[0], numbers[2], width, size, governed, as_signed)
-    if name[1:] == "addlv":
-        count = int(operands[1][3])
-        sources = {(numbers[1], widths[1]): ["+"] * count}
-        terms = [[(numbers[1], widths[1], lane, 1, name[0] == "s") for lane in range(count)]] + [[]] * (size // widths[0] - 1)
-        return Meant(name, sources, numbers[0], widths[0], terms, None)
-    return widening(name, numbers, widths, size, as_signed)
-
-
-def addv(name, d, n, width, size, governed, _):
-    terms = [(n, width, lane, 1, name[0] == "s") for lane, on in enumerate(governed) if on]
-    return Meant(name, {(n, width): marks(governed)}, d, 8, [terms] + [[]] * (size // 8 - 1), governed)
-
-
-def addqv(name, d, n, width, size, governed, as_signed):
-    terms = [[] for _ in range(size // width)]
-    for lane, on in enumerate(governed):
-        if on:
-            terms[lane * width % 16 // width].append((n, width, lane, 1, as_signed))
-    return Meant(name, {(n, width): marks(governed)}, d, width, terms, governed)
-
-
-def adalp(name, d, n, width, size, governed, as_signed):
-    half = width // 2
-    terms = [[(d, width, lane, 1, as_signed)] + [(n, half, 2 * lane + side, 1, name[0] == "s") for side in (0, 1)] if on else None
-             for lane, on in enumerate(governed)]
-    return Meant(name, {(n, half): marks([on for on in governed for _ in (0, 1)])}, d, width, terms, governed)
-
-
-GOVERNED = {"addv": addv, "ddqv": addqv, "adalp": adalp}
-
-
-def marks(governed):
-    return ["+" if on else "off" for on in governed]
-
-
-def widening(name, numbers, widths, size, as_signed):
-    """saddlb and its mates: the first source's lane has the width of the destination's in a wide word; b is the lower half, t the upper."""
-    (d, n, m), (width, first, half) = numbers, widths
-    side, sign, mark = int(name[-1] == "t"), -1 if "sub" in name else 1, "-" if "sub" in name else "+"
-    own = name[0] == "s"
-    terms = [[(n, width, lane, 1, as_signed) if first == width else (n, half, 2 * lane + side, 1, own), (m, half, 2 * lane + side, sign, own)]
-             for lane in range(size // width)]
-    sources = {}
-    for number, each, letter in ((n, first, "+"), (m, half, mark)):
-        entering = [letter if each == width or lane % 2 == side else "." for lane in range(size // each)]
-        both = sources.get((number, each))
-        sources[number, each] = [one + other if one != "." else "." for one, other in zip(both, entering)] if both else entering
-    return Meant(name, sources, d, width, terms, None)
-
-
-class Reading:
-    """One step that was read, beside what it should show."""
-
-    def __init__(self, step, meant, state, after, kind, as_signed):
-        self.step, self.meant, self.state, self.after, self.kind, self.as_signed = step, meant, state, after, kind, as_signed
-        self.zero, self.stay, self.active, self.off = zeros_of(step)
-        self.name = name_of(meant.d, meant.width)
-        self.starred = False
-
-    def check(self):
-        self.sources()
-        self.destination()
-        self.total()
-        self.geometry()
-        self.nothing_zero()
-        self.said()
-
-    def integer(self, text, width):
-        """The number that a text shows."""
-        if self.kind == "hex":
-            expect(re.fullmatch("[0-9a-f]{%d}" % (2 * width), text), text, "is no lane of", str(width), "bytes in hex")
-            return int.from_bytes(bytes.fromhex(text), "big", signed=self.as_signed)
-        expect(str(int(text)) == text, text, "is no number in decimal")
-        low = -(1 << 8 * width - 1) if self.as_signed else 0
-        expect(low <= int(text) < low + (1 << 8 * width), text, "is no lane of", str(width), "bytes")
-        return int(text)
-
-    def held(self, texts, zero, width, count, what):
-        """The bytes of lanes that are drawn, or named as zero: each lane once."""
-        expect(sorted([*texts, *zero]) == list(range(count)), "lanes of", what, "are missing or told twice")
-        lanes = [self.integer(texts[lane].rstrip("*"), width) if lane in texts else 0 for lane in range(count)]
-        return b"".join((lane % (1 << 8 * width)).to_bytes(width, "little") for lane in lanes)
-
-    def sources(self):
-        values, enters = gathered(self.step, "value"), gathered(self.step, "enters")
-        names = {name_of(*key) for key in self.meant.sources}
-        expect(set(values) <= names and {name for name, _ in self.zero} <= names, "a source is drawn that the word has not:", sorted(values))
-        for (number, width), entering in self.meant.sources.items():
-            name = name_of(number, width)
-            texts, zero = values.get(name, {}), [lane for at, lane in self.zero if at == name]
-            if name == self.name and len(self.meant.sources) == 2 and not zero:
-                zero = [lane for at, lane in self.stay if at == name]  # a source that is the destination is named with it
-            expect(self.held(texts, zero, width, len(entering), name) == self.state[number][:width * len(entering)], name, "is drawn otherwise than it was")
-            expect(enters.get(name, {}) == {lane: entering[lane] for lane in texts}, "the marks of", name, "are", enters.get(name))
-
-    def destination(self):
-        meant, rows = self.meant, {row: gathered(self.step, row).get(self.name, {}) for row in ("before", "gained", "sum", "after")}
-        expect({table.name for table in self.step.tables if "before" in table.rows} <= {self.name}, "another destination is drawn")
-        after, zero, count = {**rows["sum"], **rows["after"]}, [lane for _, lane in self.stay], len(meant.terms)
-        expect({name for name, _ in self.stay} <= {self.name} and len(after) == len(rows["sum"]) + len(rows["after"]), "a lane is drawn twice")
-        expect(self.held(rows["before"], zero, meant.width, count, self.name) == self.state[meant.d], "what the destination held before is drawn wrong")
-        expect(self.held(after, zero, meant.width, count, self.name) == self.after, "what the destination holds after is drawn wrong")
-        for lane, terms in enumerate(meant.terms):
-            exact = None if terms is None else sum(map(self.term, terms))
-            self.came_round(after.get(lane, "0"), exact, lane)
-            if lane in rows["gained"]:
-                self.gained(rows["gained"][lane], terms)
-        expect(set(rows["gained"]) == (set(after) if meant.name[1:] == "adalp" else set()), "gains are drawn where there are none, or not drawn")
-
-    def term(self, term):
-        number, width, lane, sign, is_signed = term
-        return sign * int.from_bytes(self.state[number][lane * width:(lane + 1) * width], "little", signed=is_signed)
-
-    def came_round(self, text, exact, lane):
-        """A sum is marked exactly where it is not the exact integer."""
-        shown = 0 if text == "0" else self.integer(text.rstrip("*"), self.meant.width)
-        expect(text.endswith("*") == (exact is not None and exact != shown), "lane", str(lane), "is", text, "and the exact sum", str(exact))
-        expect(exact is None or (exact - shown) % (1 << 8 * self.meant.width) == 0, "lane", str(lane), "is", text, "and should be", str(exact))
-        self.starred = self.starred or text.endswith("*")
-        if self.meant.terms[lane]:
-            SEEN[self.meant.name if self.meant.name.endswith("v") and "l" not in self.meant.name else self.meant.name[1:].rstrip("bt"), text.endswith("*")] += 1
-
-    def gained(self, text, terms):
-        """What a lane gained, marked where it is not the exact integer, or that it is kept."""
-        expect((text == "kept") == (terms is None), "an active lane is kept, or one that is off is not")
-        if terms is not None:
-            exact, shown = sum(map(self.term, terms[1:])), self.integer(text.rstrip("*"), self.meant.width)
-            expect((exact - shown) % (1 << 8 * self.meant.width) == 0 and text.endswith("*") == (exact != shown), "gained", text, "and not", str(exact))
-            self.starred = self.starred or text.endswith("*")
-
-    def total(self):
-        """The sum across lanes: of what it is one, and the same as in lane 0 of the destination."""
-        name, total = self.meant.name[1:], self.step.total
-        if name not in ("addv", "addlv"):
-            expect(total is None, "a sum across lanes is told where there is none")
-            return
-        [entering] = self.meant.sources.values()
-        count = entering.count("+")
-        if name == "addlv":
-            of_what = "the %d lanes of %s" % (count, self.step.title.split(", ")[1])
-        else:
-            of_what = "all %d lanes" % count if count == len(entering) else "the %d active lane%s" % (count, "s" * (count > 1)) if count else "no lane"
-        zero = "0" * (2 * self.meant.width if self.kind == "hex" else 1)
-        expect(total == (of_what, gathered(self.step, "after").get(self.name, {}).get(0, zero)), "the sum is told as", total)
-
-    def geometry(self):
-        """A sum stands beneath the lanes that it is of."""
-        name, groups = self.meant.name[1:], beneath(self.step)
-        if name in ("addv", "addlv"):
-            expect(not groups and not any(table.bars for table in self.step.tables), "a sum across lanes stands beneath some of them")
-        elif name == "ddqv":
-            for group in groups:
-                expect(all(table.ends == group[-1].ends for table in group), "columns of segments do not stand in line")
-                for table in group[:-1]:
-                    expect([lane % (16 // self.meant.width) for lane in table.lanes] == group[-1].lanes, "a sum stands beneath another place")
-        else:
-            expect(sum(map(len, groups)) == len(self.step.tables), "a table has no sums beneath it")
-            for group in groups:
-                self.boxes(group)
-
-    def boxes(self, group):
-        """In each box stand one lane of the destination and of each source the lanes that it lies over."""
-        expect([name_of(*key) for key in self.meant.sources] + [self.name] == [table.name for table in group], "a row of boxes lacks a register")
-        expect(all(table.bars == group[-1].bars for table in group) and len(group[-1].bars) == len(group[-1].lanes) + 1, "boxes do not stand in line")
-        for table in group:
-            each = self.meant.width // BYTES[table.name[-1]]
-            for lane in table.lanes:
-                expect(box(table, lane) == box(group[-1], lane // each), "lane", str(lane), "of", table.name, "stands in another box")
-
-    def nothing_zero(self):
-        """Lanes that are all zero are not drawn."""
-        groups = beneath(self.step)
-        for group in groups + [[table] for table in self.step.tables if table not in [last for group in groups for last in group]]:
-            texts = [text for table in group for row in ("value", "before", "sum", "after") for text in table.rows.get(row, ())]
-            expect(any(text.strip("0") for text in texts), "lanes are drawn that are all zero:", group)
-            if self.meant.name == "addqv":
-                expect(all(any(text.strip("0") for text in table.rows["value"]) for table in group[:-1]), "a segment is drawn that is zero")
-
-    def said(self):
-        """Every sentence is known, and says what is so."""
-        name, said = self.meant.name, [line for line in self.step.said if not re.search(r" (are|stay) 0\b", line)]
-        wanted = [self.activity(said[0]) if self.meant.governed else self.of_v() if name[1:] == "addlv" else self.halves()]
-        d, n = self.meant.d, next(iter(self.meant.sources))[0]
-        if name[1:] == "adalp" and d == n:
-            wanted.append("z%d is source and destination: an active lane enters twice, whole and in halves." % n)
-        if name[4:5] == "w" and len({number for number, _ in self.meant.sources}) == 1:
-            wanted.append("z%d is both sources: a half lane that enters does so twice, once in its whole lane." % n)
-        if name != "addqv" and self.as_signed != (name[0] == "s"):
-            wanted.append("The word reads its lanes as %s; here they are shown %s." % (("unsigned", "signed") if self.as_signed else ("signed", "unsigned")))
-        if self.starred:
-            wanted.append("* came round: modulo %d (2^%d)" % (256 ** self.meant.width, 8 * self.meant.width))
-        expect(said == wanted, "what is said is", said, "and not", wanted)
-
-    def activity(self, sentence):
-        """The sentence on active lanes, which names those that are off where they are few; those that are not drawn are told as well."""
-        governed = self.meant.governed
-        off = [lane for lane, on in enumerate(governed) if not on]
-        name, kept = (self.name, " and kept") if self.meant.name[1:] == "adalp" else (name_of(*next(iter(self.meant.sources))), "")
-        folded = [lane for at, lane in (self.stay if kept else self.zero)]
-        expect(sorted(lane for _, lane in self.off) == sorted(set(off) & set(folded)), "lanes that are not drawn are told off wrongly")
-        expect(sorted(lane for _, lane in self.active) == sorted(set(folded) - set(off)), "lanes that are not drawn are told active wrongly")
-        if not off:
-            return "All %d lanes of %s are active." % (len(governed), name)
-        on = len(governed) - len(off)
-        found = re.search(r": lanes? (\S.*) (is|are) off", sentence)
-        expect(found and places(found[1]) == off or len(off) > 4 and ": the other %d are off" % len(off) in sentence, "not said, or wrongly, are", off)
-        start = "%s of %s %s active: " % ("%d of %d lanes" % (on, len(governed)) if on else "No lane", name, "are" if on > 1 else "is")
-        expect(sentence.startswith(start) and sentence.endswith(" %s off%s." % ("are" if len(off) > 1 else "is", kept)), "said is", sentence)
-        return sentence
-
-    def of_v(self):
-        [((number, width), entering)] = self.meant.sources.items()
-        every = len(self.after) // width
-        said = "%s is lanes 0 to %d of %s, all added" % (self.step.title.split(", ")[1], len(entering) - 1, name_of(number, width))
-        above = "; lanes %d to %d are not part of it." % (len(entering), every - 1)
-        if every - len(entering) == 2:
-            above = above.replace(" to ", " and ")
-        return said + (above if every > len(entering) else ".")
-
-    def halves(self):
-        which, names = "odd" if self.meant.name[-1] == "t" else "even", [name_of(*key) for key in self.meant.sources]
-        if self.meant.name[4] == "w":
-            return "Of %s every lane enters, of %s the %s lanes." % (*names, which)
-        if len(names) == 1:
-            return "Of %s, which is both sources, the %s lanes enter, each of them twice." % (*names, which)
-        return "Of %s and %s the %s lanes enter." % (*names, which)
-
-
-def name_of(number, width):
-    return "z%d.%s" % (number, "bhsd"[(1, 2, 4, 8).index(width)])
-
 
 
 def examples():
@@ -374,22 +124,24 @@ def slips():
     lines = walk(layout.packed(session))
     shown = drawing.drawn(session, lines.encode(), "own")
     read_back(session, lines, shown, "own")
-    saddv, addqv, sadalp, usublb, uaddlv = [part + "\n" for part in shown[:-1].split("\n\n")[1:]]
+    head, saddv, addqv, sadalp, usublb, uaddlv = shown.split("\n\n")
     for step, old, new in (
         (saddv, " 0   1   2   3   4   5   6   7   8   9  10  11  12  13  14  15", " 1   2   3   4   5   6   7   8   9  10  11  12  13  14  15  16"),
-        (saddv, "+ off   +", "+   + off"), (saddv, "+ off   +", "+   +   +"), (saddv, "lane 7 is off", "lane 8 is off"), (saddv, "15 of 16", "16 of 16"),
-        (saddv, "  12 127  -4", " 127  12  -4"), (saddv, "active lanes: 53", "active lanes: 54"), (saddv, "after   53   0", "after    0  53"),
-        (saddv, "lane     0   1   2", "lane    0   1    2"),
+        (saddv, "+ off   +", "+   + off"), (saddv, "+ off   +", "+   +   +"), (saddv, "lane 7 is off", "lane 8 is off"),
+        (saddv, "15 of 16", "16 of 16"), (saddv, "  12 127  -4", " 127  12  -4"), (saddv, "active lanes: 53", "active lanes: 54"),
+        (saddv, "after   53   0", "after    0  53"), (saddv, "lane     0   1   2", "lane    0   1    2"), (saddv, "as Arm counts", "as we count"),
         (addqv, "sum     12  11", "sum     11  12"), (addqv, "sum     12", "sum    12 "), (addqv, "  12   0 252", "   0  12 252"),
-        (sadalp, "kept", "   0"), (sadalp, "32760 |", "32759 |"), (sadalp, "32637*|", "32637 |"), (sadalp, "-32637*|", "32637*|"),
-        (sadalp, "modulo 65536 (2^16)", "modulo 256 (2^8)"), (sadalp, "| off off |   +   + |", "|   +   + | off off |"), (sadalp, "off and kept", "off"),
-        (sadalp, "z2.h  lane   |       0 |       1 |", "z2.h  lane   |       1 |       0 |"), (sadalp, "|       0 |       1 |", "|     0 |         1 |"),
-        (usublb, "   -   . |", "   .   - |"), (usublb, "   243 |", "   244 |"), (usublb, "   243 |", "   243*|"), (usublb, "the even lanes", "the odd lanes"),
-        (usublb, "|   0   1 |   2   3 |", "|   0   1 |   3   2 |"), (uaddlv, "lanes 8 to 15", "lanes 9 to 15"), (uaddlv, "+   +\n", "+   .\n"),
-        (uaddlv, "z6.h", "z7.h"), (addqv, "\n1 0", "1 0"),
+        (addqv, "\n1 0", "1 0"),
+        (sadalp, "kept", "   0"), (sadalp, "32760 |", "32759 |"), (sadalp, "-32637*|", "-32637 |"), (sadalp, "-32637*|", " 32637*|"),
+        (sadalp, "modulo 65536 (2^16)", "modulo 256 (2^8)"), (sadalp, "off and kept", "off"),
+        (sadalp, "| off off |   +   + |", "|   +   + | off off |"), (sadalp, "|       0 |       1 |", "|       1 |       0 |"),
+        (sadalp, "|       0 |       1 |", "|     0 |         1 |"), (usublb, "|   0   1 |   2   3 |", "|   0   1 |   3   2 |"),
+        (usublb, "   -   . |", "   .   - |"), (usublb, "   243 |", "   244 |"), (usublb, "   243 |", "   243*|"),
+        (usublb, "the even lanes", "the odd lanes"), (uaddlv, "lanes 8 to 15", "lanes 9 to 15"), (uaddlv, "+   +\n", "+   .\n"),
+        (uaddlv, "z6.h", "z7.h"),
     ):
-        wrong = shown.replace(step, step.replace(old, new, 1)) if step != addqv or old[0] != "\n" else shown.replace(old, new, 1)
-        expect(wrong != shown, old, "is not in", step)
+        at = shown.index(old, 0 if old in head else shown.index(step) - 1)
+        wrong = shown[:at] + new + shown[at + len(old):]
         expect(not holds(session, lines, wrong), new, "in place of", old, "is not found in", step)
 
 
@@ -451,14 +203,15 @@ def refused_lines():
 
 def not_its_own(first, second, third):
     """Lines that are not walk's for the session of these three."""
+    lines, rest = first + second + third, second + third
     return [
-        b"anything\n", b"\x1b[2J\x07\n", first + b"\x1b]0;title\x07\n" + third, b"\xff\xfe\x85\n", b"\n", b"", first, first + second,
-        (first + second + third)[:-1], first + second + third + b"\n", first + second + third + third, third, second + first + third, first + first + third,
-        first[:-1] + b"\r\n" + second + third, first[:-1] + b" \n" + second + third, b" " + first + second + third, b"0" + first + second + third,
-        first.replace(b"0 0", b"0 1") + second + third, first.replace(b"z1.b", b"z2.b") + second + third, first.upper() + second + third,
-        first.replace(b" 00", b" 0") + second + third, first.replace(b" 00", b" 000") + second + third, first.replace(b"03\n", b"04\n") + second + third,
-        first.replace(b" 00", b" 01") + second + third, first.replace(b" 00", b" 0x") + second + third, first.replace(b" 00", b" +0") + second + third,
-        first + second + b"2 7 4444a023\n", first + second + b"2 9 4444a023\n", first + second + b"2 8 4444a024\n", first + second + b"2 8 4444A023\n",
-        first + second + b"2 0 sadalp z3.h, p0/m, z1.b " + b"0" * 28 + b"0003\n", first + b"1 8 04012023\n", b"14\n14\n", first + b"14\n", b"14",
-        first.replace(b"\n", b"\x0b") + second + third,
+        b"", b"\n", b"anything\n", b"\x1b[2J\x07\n", b"\xff\xfe\x85\n", first + b"\x1b]0;title\x07\n" + third, first.replace(b"\n", b"\x0b") + rest,
+        first, first + second, third, second + first + third, first + first + third, lines + third, lines + b"\n", lines[:-1],
+        first[:-1] + b"\r\n" + rest, first[:-1] + b" \n" + rest, b" " + lines, b"0" + lines, first.upper() + rest,
+        first.replace(b"0 0", b"0 1") + rest, first.replace(b"z1.b", b"z2.b") + rest, first.replace(b" 00", b" 0") + rest,
+        first.replace(b" 00", b" 000") + rest, first.replace(b" 00", b" 01") + rest, first.replace(b" 00", b" 0x") + rest,
+        first.replace(b" 00", b" +0") + rest, first.replace(b"03\n", b"04\n") + rest,
+        first + second + b"2 7 4444a023\n", first + second + b"2 9 4444a023\n", first + second + b"2 8 4444a024\n",
+        first + second + b"2 8 4444A023\n",
+        first + second + b"2 0 sadalp z3.h, p0/m, z1.b " + b"0" * 28 + b"0006\n", first + b"1 8 04012023\n", b"14", b"14\n14\n", first + b"14\n",
     ]
