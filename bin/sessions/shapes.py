@@ -40,10 +40,9 @@ def across(view):
     return out + cleared(view, range(len(step.after)), cell + further * pitch, tail)
 
 
-def zero_stretches(each, *registers):
-    """Stretches of lanes, `each` to a block, and whether they are zero in every one of some lists of lanes."""
-    blocks = range(0, len(registers[0]), each)
-    for gone, first, last in stretches([not any(any(lanes[start:start + each]) for lanes in registers) for start in blocks]):
+def zero_stretches(each, lanes):
+    """Stretches of lanes, `each` to a block, and whether they are zero: (whether they are, the first, the one after the last)."""
+    for gone, first, last in stretches([not any(lanes[start:start + each]) for start in range(0, len(lanes), each)]):
         yield gone, first * each, last * each
 
 
@@ -147,7 +146,7 @@ def in_box(step, source):
 
 def box_cell(view):
     """The width of a half lane's column, so that every text has room in its box."""
-    step, halves, wholes = view.step, [str(2 * len(view.after) - 1)], view.before + view.gains + bare(view.after)
+    step, halves, wholes = view.step, [str(2 * len(view.after) - 1)], view.before + bare(view.gains + view.after)
     for source, values in zip(step.sources, view.values):
         (halves if in_box(step, source) == 2 else wholes).extend(values + source.marks)
     return max(widest(halves), widest(wholes) // 2)

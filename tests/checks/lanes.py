@@ -29,6 +29,7 @@ def check():
     for family in ("addv", "addqv", "addlv", "adalp", "addl", "subl", "addw", "subw"):
         expect(SEEN[family, True] and SEEN[family, False], "no sum, or every sum, of", family, "came round")
     examples()
+    kinds()
     short()
     slips()
     refused_lines()
@@ -100,6 +101,15 @@ def examples():
             expect(read_back(session, lines, drawing.drawn(session, lines.encode(), kind), kind), "no step is drawn of", name)
         drawn = run("--lanes", place("examples", name))
         expect(drawn.out.decode() == drawing.drawn(session, lines.encode(), "own") and drawn.status in (0, 3), "run draws otherwise", name)
+
+
+def kinds():
+    """The kinds of numbers, as run is asked for them."""
+    text = b"k 1\nz1.b -1 -1\np0.b all\nprogram\nsaddv d0, p0, z1.b\n"
+    for option, value, total in (("", "  -1  -1   0", "-2"), ("=signed", "  -1  -1   0", "-2"), ("=hex", "  ff  ff  00", "fffffffffffffffe"),
+                                 ("=unsigned", " 255  255    0", "18446744073709551614*")):
+        drawn = run("--lanes" + option, "-", stdin=text).expect(0).out.decode()
+        expect("value %s " % value in drawn and "sum of all 16 lanes: %s\n" % total in drawn, option, "is drawn as", drawn)
 
 
 # sixteen channels of a byte, of which 7 is off, added up and kept in totals
