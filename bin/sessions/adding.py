@@ -9,10 +9,11 @@ ADDED, TAKEN, OFF, UNUSED = "+", "-", "off", "."
 # A source's name, the bytes of a lane, its lanes, and a mark for each; of a register's lanes those that the word can read.
 Source = namedtuple("Source", "name width lanes marks")
 
-# A step: the word's parts, its sources, for each governed lane whether it is active (None where no predicate governs), the destination's
-# name and the bytes of a lane, its lanes before and after, for each the exact sum, and what it gained. A sum is an integer of any size; it
-# and a gain are None where the lane is kept. Gains are None where the word's sum does not begin with what the destination held.
-Step = namedtuple("Step", "parts sources governed name width before after sums gains")
+# A step: the word's parts, whether its lanes are shown as signed numbers, its sources, for each governed lane whether it is active (None where
+# no predicate governs), the destination's name and the bytes of a lane, its lanes before and after, for each the exact sum, and what it
+# gained. A sum is an integer of any size; it and a gain are None where the lane is kept. Gains are None where a word's sum does not begin with
+# what the destination held.
+Step = namedtuple("Step", "parts as_signed sources governed name width before after sums gains")
 
 
 def step_of(parts, vectors, predicates, after, as_signed):
@@ -21,7 +22,8 @@ def step_of(parts, vectors, predicates, after, as_signed):
     governed = active(predicates[parts.g], 1 << parts.size) if is_governed(parts) else None
     sources, width, sums, gains = ADDING[parts.row.form](parts, vectors, governed, as_signed)
     before, left = lanes_of(vectors[parts.d], width), lanes_of(after, width)
-    return Step(parts, sources, governed, name_of(parts.d, width), width, before, left, sums + [0] * (len(left) - len(sums)), gains)
+    sums += [0] * (len(left) - len(sums))  # a write to a V register clears what is above it
+    return Step(parts, as_signed, sources, governed, name_of(parts.d, width), width, before, left, sums, gains)
 
 
 def is_governed(parts):

@@ -30,7 +30,7 @@ def drawn(session, output, kind):
         step = step_of(parts, vectors, session.predicates, after, shown_signed(parts, kind))
         agree(step, place)
         view = view_of(step, kind)
-        out.append("\n".join(["%d 0 %s" % (place, words.named(session.words[place]))] + step_drawn(view, shown_signed(parts, kind))))
+        out.append("\n".join(["%d 0 %s" % (place, words.named(session.words[place]))] + step_drawn(view)))
         marks |= marks_of(view)
         vectors[parts.d] = after
     return "\n\n".join(([legend(marks)] if marks else []) + out) + "\n" if out else ""
@@ -52,19 +52,18 @@ def agree(step, place):
     """Refuses a line whose register is not what the word's lanes add up to."""
     for lane, (total, before, after) in enumerate(zip(step.sums, step.before, step.after)):
         if after != (before if total is None else total % (1 << 8 * step.width)):
-            raise Bad("line %d of the walk is not this session's: word %d leaves another %s in lane %d" % (place + 1, place, step.name, lane))
+            raise Bad("line %d of the walk is not this session's: word %d leaves another lane %d in %s" % (place + 1, place, lane, step.name))
 
 
 def view_of(step, kind):
     """The step with its lanes as texts; a number that came round is marked."""
-    as_signed = shown_signed(step.parts, kind)
 
     def texts(lanes, width):
-        return ["%0*x" % (2 * width, lane) if kind == "hex" else str(number(lane, width, as_signed)) for lane in lanes]
+        return ["%0*x" % (2 * width, lane) if kind == "hex" else str(number(lane, width, step.as_signed)) for lane in lanes]
 
     def marked(exact, lanes):
-        """Lanes of the destination, where each has the low digits of an exact integer, or of none."""
-        differ = [total is not None and total != number(lane, step.width, as_signed) for total, lane in zip(exact, lanes)]
+        """Lanes of the destination's width, each with the low digits of an exact integer, or of none."""
+        differ = [total is not None and total != number(lane, step.width, step.as_signed) for total, lane in zip(exact, lanes)]
         return [text + CAME_ROUND * came_round for text, came_round in zip(texts(lanes, step.width), differ)]
 
     gains = step.gains or []
@@ -80,9 +79,9 @@ def marks_of(view):
     return {mark for source in view.step.sources for mark in source.marks} | ({CAME_ROUND} if came_round else set())
 
 
-def step_drawn(view, as_signed):
+def step_drawn(view):
     """The lines of one step, beneath the one that names its word."""
-    out = [line for said in phrases.about(view.step, as_signed) for line in sentence(said)] + laid_out(view)
+    out = [line for said in phrases.about(view.step) for line in sentence(said)] + laid_out(view)
     if CAME_ROUND in marks_of(view):
         bits = 8 * view.step.width
         out.append("  %s came round: modulo %d (2^%d)" % (CAME_ROUND, 1 << bits, bits))

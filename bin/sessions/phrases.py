@@ -4,18 +4,19 @@ from .adding import is_signed
 from .tables import lanes_named, listed, runs
 
 FEW = 4  # lanes, or stretches of them, that are named; of more it is said how many they are
+SIGNS = "unsigned", "signed"
 
 
-def about(step, as_signed):
+def about(step):
     """The sentences on a whole step."""
-    out = [SAID[step.parts.row.form](step)]
-    if step.parts.row.form == words.PAIRWISE and step.parts.d == step.parts.n:
-        out.append("z%d is source and destination: an active lane enters twice, whole and in halves." % step.parts.n)
-    if step.parts.row.form == words.WIDE and step.parts.n == step.parts.m:
-        out.append("z%d is both sources: a half lane that enters does so twice, once in its whole lane." % step.parts.n)
-    if as_signed != is_signed(step.parts) and step.parts.row.form != words.SEGMENT:
-        signs = "unsigned", "signed"
-        out.append("The word reads its lanes as %s; here they are shown %s." % (signs[not as_signed], signs[as_signed]))
+    parts, form = step.parts, step.parts.row.form
+    out = [SAID[form](step)]
+    if form == words.PAIRWISE and parts.d == parts.n:
+        out.append("z%d is source and destination: an active lane enters twice, whole and in halves." % parts.n)
+    if form == words.WIDE and parts.n == parts.m:
+        out.append("z%d is both sources: a half lane that enters does so twice, once in its whole lane." % parts.n)
+    if form != words.SEGMENT and step.as_signed != is_signed(parts):
+        out.append("The word reads its lanes as %s; here they are shown %s." % (SIGNS[not step.as_signed], SIGNS[step.as_signed]))
     return out
 
 
@@ -75,9 +76,9 @@ def counted(step):
 
 def zeros(named, governed=None, places=()):
     """What is said of lanes that are zero and not drawn, and of those among them that are off, where they are governed."""
-    off = [] if governed is None else off_among(governed, places)
     if governed is None:
         return named + "."
+    off = off_among(governed, places)
     if len(off) in (0, len(places)):
         return "%s and %s." % (named, "off" if off else "active")
     return "%s; of these %s %s off." % (named, listed(off), "is" if len(off) == 1 else "are")

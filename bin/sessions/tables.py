@@ -50,7 +50,7 @@ def stretches(hidden):
         yield gone, blocks[0], blocks[-1] + 1
 
 
-def columns(name, places, rows, cell, tail=""):
+def columns(name, places, rows, cell, tail):
     """The rows of some lanes beneath their numbers, in cells of one width; `tail` is a space where a number of the step is marked, for the
     numbers that are not."""
     rows = [("lane", [str(place) for place in places])] + rows

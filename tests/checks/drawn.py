@@ -96,8 +96,9 @@ def zeros_of(step):
     for sentence in step.said:
         found = re.fullmatch(r"(?:(.*?) are 0)?(?:; )?(?:(%s lanes? %s) stay 0)?(?: and (off|active)|; of these (%s) (?:is|are) off)?\."
                              % (REGISTER, LIST, LIST), sentence)
-        if not found or not (found[1] or found[2]):
+        if not re.search(r" (are|stay) 0\b", sentence):
             continue
+        expect(found and (found[1] or found[2]), "lanes are called zero otherwise:", sentence)
         sources += named(found[1]) if found[1] else []
         stay += named(found[2]) if found[2] else []
         governed = named(found[2] or found[1])

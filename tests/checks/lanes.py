@@ -200,6 +200,8 @@ def refused_lines():
         for kind in drawing.KINDS:
             shown(lines, kind).expect(0, out=drawing.drawn(session, lines, kind).encode())
         shown(b"14\n").expect(0, out=b"14\n")
+        shown(b"0 8 04002020\n", given=session._replace(facts=0)).expect(0, out=b"0 8 04002020\n")
+        shown(b"", given=session._replace(words=[])).expect(0, out=b"")
         every = session._replace(facts=31)
         for data, given in [(data, session) for data in not_its_own(first, second, third)] + [(lines, every), (lines, session._replace(words=[]))]:
             said = shown(data, given=given).expect(3, "show-lanes: " + paths[0] + ": ", out=b"").err

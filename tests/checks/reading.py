@@ -49,8 +49,8 @@ class Reading:
         for (number, width), entering in self.meant.sources.items():
             name = name_of(number, width)
             texts, zero = values.get(name, {}), [lane for at, lane in self.zero if at == name]
-            if self.family in ("addw", "subw") and name == self.name:
-                zero = [lane for at, lane in self.stay if at == name]  # a source that is the destination is named with it
+            if self.family in ("addw", "subw"):
+                zero += [lane for at, lane in self.stay if at == name]  # a source that is the destination is named with it
             held = self.held(texts, zero, width, len(entering), name)
             expect(held == self.state[number][:width * len(entering)], name, "is drawn otherwise than it was")
             expect(enters.get(name, {}) == {lane: entering[lane] for lane in texts}, "the marks of", name, "are", enters.get(name))
