@@ -9,9 +9,9 @@ NO_SESSION = b"14\n"  # what walk prints for a file that is no session
 
 def walked(session, output):
     """For each line the register that the step left, lowest byte first, and None for a refused word, which is the last."""
-    lines = output.decode("ascii", "replace").split("\n")
-    if lines.pop():
-        raise Bad("the walk's last line has no end: %s" % echo(output.decode("ascii", "replace").split("\n")[-1]))
+    *lines, rest = output.decode("ascii", "replace").split("\n")
+    if rest:
+        raise Bad("the walk's last line, %s, does not end in a newline" % echo(rest))
     left = []
     for place, line in enumerate(lines):
         if place == len(session.words) or left and left[-1] is None:
