@@ -1,112 +1,88 @@
 """The lanes of a walk, drawn from a session and the lines that walk printed for it."""
-import re
-from itertools import groupby
+import textwrap
 
-from . import words
-from .lanes import active, lanes_of, signed
-from .saying import Bad, echo
+from . import phrases, words
+from .adding import ADDED, OFF, TAKEN, UNUSED, is_signed, number, step_of
+from .saying import Bad
+from .shapes import View, laid_out
+from .tables import CAME_ROUND, MOST, sentence
+from .walked import NO_SESSION, walked
 
 KINDS = ("own", "signed", "unsigned", "hex")
-SEGMENT = 16  # bytes of a row
-DONE = re.compile(r"([0-9]+) 0 (.*) ([0-9a-f]+)\Z")
+KEPT = "kept"  # in place of what a lane gained
+COUNTED = "Lanes count from 0, as Arm counts; lane 0 is a register's lowest bytes."
+MEANING = {
+    ADDED: "added", TAKEN: "taken away", ADDED + ADDED: "added twice", ADDED + TAKEN: "added and taken away",
+    OFF: "not active, not added", UNUSED: "not used by the word",
+}
 
 
 def drawn(session, output, kind):
-    """The drawing of a whole walk."""
-    vectors, out = list(session.vectors), []
-    for place, line in enumerate(output.decode("ascii", "replace").splitlines()):
-        found = DONE.match(line)
-        if not found:
-            out.append(line)
+    """The drawing of a whole walk; a refused word, which is the last, has its line as walk prints it."""
+    if output == NO_SESSION:
+        return output.decode()
+    vectors, out, marks = list(session.vectors), [], set()
+    for place, after in enumerate(walked(session, output)):
+        if after is None:
+            out.append(output.decode().split("\n")[place])
             continue
-        if int(found[1]) != place or place >= len(session.words) or words.named(session.words[place]) != found[2]:
-            raise Bad("the walk's line %s is not that of word %d" % (echo(line), place))
         parts = words.decoded(session.words[place])[1]
-        after = bytes.fromhex(found[3])[::-1]
-        if len(after) != len(vectors[parts.d]):
-            raise Bad("the walk's line %s has no register of %d bytes" % (echo(line), len(vectors[parts.d])))
-        out.append("%d 0 %s" % (place, found[2]))
-        out += step(parts, vectors, session.predicates, after, kind)
+        step = step_of(parts, vectors, session.predicates, after, shown_signed(parts, kind))
+        agree(step, place)
+        view = view_of(step, kind)
+        out.append("\n".join(["%d 0 %s" % (place, words.named(session.words[place]))] + step_drawn(view)))
+        marks |= marks_of(view)
         vectors[parts.d] = after
-    return "\n".join(out + [""]) if out else ""
+    return "\n\n".join(([legend(marks)] if marks else []) + out) + "\n" if out else ""
 
 
-def step(parts, vectors, predicates, after, kind):
-    """The tables of one step: its sources, then its destination."""
-    if kind == "own":
-        kind = "signed" if parts.row.name.startswith("s") else "unsigned"
-    out, form, width = [], parts.row.form, 1 << parts.size
-    governed = active(predicates[parts.g], width) if form in (words.REDUCTION, words.SEGMENT, words.PAIRWISE) else None
-    if form == words.PAIRWISE:
-        pairs = [on for on in governed for _ in (0, 1)]
-        out += source(vectors, parts.n, width // 2, {"active": pairs}, kind)
-        return out + destination(parts.d, width, vectors[parts.d], after, kind, governed)
-    if governed is not None:
-        out += source(vectors, parts.n, width, {"active": governed}, kind)
-        return out + destination(parts.d, 8 if form == words.REDUCTION else width, vectors[parts.d], after, kind)
-    if form == words.LONG:
-        lanes = [place < (8 << parts.q) // width for place in range(len(after) // width)]
-        out += source(vectors, parts.n, width, {"added": lanes}, kind)
-        return out + destination(parts.d, 2 * width, vectors[parts.d], after, kind)
-    for (number, lane), marks in widened(parts, len(after)).items():
-        out += source(vectors, number, lane, marks, kind)
-    return out + destination(parts.d, width, vectors[parts.d], after, kind)
+def legend(marks):
+    """How lanes are counted, and what those marks mean that are used."""
+    used = "; ".join("%s %s" % (mark, meaning) for mark, meaning in MEANING.items() if mark in marks)
+    said = "Beneath a lane: %s." % used + (" A number with %s came round." % CAME_ROUND if CAME_ROUND in marks else "")
+    return "\n".join([COUNTED] + textwrap.wrap(said, MOST, break_on_hyphens=False))
 
 
-def widened(parts, size):
-    """The sources of a widening word, by their numbers and the bytes of their lanes, and which lanes of their `size` bytes count for what: they
-    are added, or in a difference the first source's are plus and the second's minus. A register that is both at one width is one source."""
-    width, half = 1 << parts.size, (1 << parts.size) // 2
-    halves = [place % 2 == parts.row.name.endswith("t") for place in range(size // half)]
-    first = (width, [True] * (size // width)) if parts.row.form == words.WIDE else (half, halves)
-    signs = ("plus", "minus") if parts.row.name[1:4] == "sub" else ("added", "added")
-    found = {}
-    for number, (lane, counting), sign in zip((parts.n, parts.m), (first, (half, halves)), signs):
-        found.setdefault((number, lane), {})[sign] = counting
-    return found
+def shown_signed(parts, kind):
+    """Whether a step's lanes are read as signed numbers: in hex, and where no sign is asked for, as the word reads them."""
+    return kind == "signed" or kind != "unsigned" and is_signed(parts)
 
 
-def source(vectors, number, width, marks, kind):
-    """A source's lanes and which of them count, by what they count for."""
-    lanes = lanes_of(vectors[number], width)
-    rows = [("value", [text(lane, width, kind) for lane in lanes])]
-    rows += [(word, ["01"[on] for on in counting]) for word, counting in marks.items()]
-    drop = [not lane and not any(on) for lane, on in zip(lanes, zip(*marks.values()))]
-    return table(number, width, rows, drop, "0, not " + " or ".join(marks))
+def agree(step, place):
+    """Refuses a line whose register is not what the word's lanes add up to."""
+    for lane, (total, before, after) in enumerate(zip(step.sums, step.before, step.after)):
+        if after != (before if total is None else total % (1 << 8 * step.width)):
+            raise Bad("line %d of the walk is not this session's: word %d leaves another lane %d in %s" % (place + 1, place, lane, step.name))
 
 
-def destination(number, width, before, after, kind, governed=None):
-    """A destination's lanes before and after the step, and which were active where it is governed lane by lane."""
-    old, new = lanes_of(before, width), lanes_of(after, width)
-    rows = [("before", [text(lane, width, kind) for lane in old]), ("after", [text(lane, width, kind) for lane in new])]
-    drop = [not a and not b for a, b in zip(old, new)]
-    if governed is None:
-        return table(number, width, rows, drop, "0 before and after")
-    rows.insert(0, ("active", ["01"[on] for on in governed]))
-    return table(number, width, rows, [zero and not on for zero, on in zip(drop, governed)], "0 before and after, not active")
+def view_of(step, kind):
+    """The step with its lanes as texts; a number that came round is marked."""
+
+    def texts(lanes, width):
+        return ["%0*x" % (2 * width, lane) if kind == "hex" else str(number(lane, width, step.as_signed)) for lane in lanes]
+
+    def marked(exact, lanes):
+        """Lanes of the destination's width, each with the low digits of an exact integer, or of none."""
+        differ = [total is not None and total != number(lane, step.width, step.as_signed) for total, lane in zip(exact, lanes)]
+        return [text + CAME_ROUND * came_round for text, came_round in zip(texts(lanes, step.width), differ)]
+
+    gains = step.gains or []
+    gained = marked(gains, [(gain or 0) % (1 << 8 * step.width) for gain in gains])
+    return View(
+        step, [texts(source.lanes, source.width) for source in step.sources], texts(step.before, step.width),
+        [KEPT if gain is None else text for gain, text in zip(gains, gained)], marked(step.sums, step.after))
 
 
-def text(lane, width, kind):
-    """A lane's number as the kind has it."""
-    if kind == "hex":
-        return "%0*x" % (2 * width, lane)
-    return str(signed(lane, width) if kind == "signed" else lane)
+def marks_of(view):
+    """The marks that a step's drawing has."""
+    came_round = any(text.endswith(CAME_ROUND) for text in view.after + view.gains)
+    return {mark for source in view.step.sources for mark in source.marks} | ({CAME_ROUND} if came_round else set())
 
 
-def table(number, width, rows, drop, dropped):
-    """A register's rows, sixteen bytes to a row, lane 0 first; segments with nothing to see are named in one line."""
-    name, per_row = "z%d.%s" % (number, words.letter(width)), SEGMENT // width
-    lanes = len(drop)
-    cell = max([len(str(lanes - 1))] + [len(value) for _, values in rows for value in values])
-    out = []
-    empty = [all(drop[first:first + per_row]) for first in range(0, lanes, per_row)]
-    for hidden, group in groupby(range(len(empty)), lambda segment: empty[segment]):
-        segments = list(group)
-        if hidden:
-            out.append("%-6s lanes %d to %d: %s" % (name, segments[0] * per_row, (segments[-1] + 1) * per_row - 1, dropped))
-            continue
-        for segment in segments:
-            places = range(segment * per_row, (segment + 1) * per_row)
-            out.append("%-6s %-6s %s" % (name, "lane", " ".join("%*d" % (cell, place) for place in places)))
-            out += ["%-6s %-6s %s" % ("", word, " ".join(values[place].rjust(cell) for place in places)) for word, values in rows]
-    return ["  " + line for line in out]
+def step_drawn(view):
+    """The lines of one step, beneath the one that names its word."""
+    out = [line for said in phrases.about(view.step) for line in sentence(said)] + laid_out(view)
+    if CAME_ROUND in marks_of(view):
+        bits = 8 * view.step.width
+        out.append("  %s came round: modulo %d (2^%d)" % (CAME_ROUND, 1 << bits, bits))
+    return out

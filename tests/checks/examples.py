@@ -45,7 +45,7 @@ def in_version_2():
 def readme():
     """What README.md shows is what run prints."""
     blocks = [textwrap.dedent(block) for block in re.findall(r"(?:^    .*\n)+", read("README.md").decode().split("## Link it")[0], re.MULTILINE)]
-    lines, lanes = [block for block in blocks if block.startswith("0 0 ")]
-    [kernel] = [block for block in blocks if block.startswith("k ")]
+    lines, step = [block for block in blocks if block.startswith("0 0 ")]
+    [kernel], [head] = ([block for block in blocks if block.startswith(start)] for start in ("k ", "Lanes count"))
     expect(lines.encode() == read("examples/paper.expected"), "README.md shows other lines than those of the session that ships")
-    run("--lanes", "-", stdin=kernel.encode()).expect(0, out=lanes.encode())
+    run("--lanes", "-", stdin=kernel.encode()).expect(0, out=(head + "\n" + step).encode())

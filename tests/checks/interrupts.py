@@ -182,7 +182,7 @@ runpy.run_path(sys.argv[1], run_name="__main__")
 
 def starting():
     """An interrupt at the first import of their own ends them in silence too."""
-    for program in ("make-session", "show-session"):
+    for program in ("make-session", "show-session", "show-lanes"):
         done = subprocess.run([sys.executable, "-c", STARTS, place("bin", program)], stderr=subprocess.PIPE, check=False)
         expect((done.returncode, done.stderr) == (-signal.SIGINT, b""), program, "starts with", str(done.returncode), done.stderr)
 

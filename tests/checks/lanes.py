@@ -1,183 +1,229 @@
-"""The lanes that are drawn: parsed again, the sources' lanes with their marks add up to what the proved engine left in the destination, and
-what a destination held before is what the session or an earlier step gave."""
+"""The lanes that are drawn, read back from the drawing of every row of the table, at every size and length, of every kind, with full and with
+sparse registers, with the destination among the sources and without: they are the registers of the proved program's walk to the byte,
+each lane is marked as it enters, each sum stands beneath the lanes that it is of and is marked exactly where it came round. Then wrong drawings,
+which must be found, and lines that are not the session's, which must be refused."""
+import os
 import random
 import re
+import tempfile
+from itertools import product
 
 from sessions import drawing, layout, readable, words
 
-from .common import expect, walk
-from .round_trip import any_session, any_word
-
-BYTES = {"b": 1, "h": 2, "s": 4, "d": 8}
-MARKS = ("active", "added", "plus", "minus")  # what a source's lanes are marked as
-ELIDED = re.compile(r"  z(\d+)\.([bhsd]) +lanes (\d+) to (\d+): (.*)\Z")
+from .common import Failed, Ran, expect, place, read, run, walk
+from .drawn import steps_of
+from .meant import meant_by
+from .reading import SEEN, Reading
+from .round_trip import shapes
 
 
 def check():
+    SEEN.clear()
     dice = random.Random(5)
-    for count in range(120):
-        session = any_session(dice, (1, 2, 4, 16)[count % 4], facts=dice.choice((None, dice.randrange(32))))
-        session = session._replace(words=[any_word(dice, layout.facts_of(session)) for _ in range(20)])
+    for k, sparse, pattern in product(layout.LENGTHS, (False, True), PATTERNS):
+        session = layout.Session(k, [register(dice, 16 * k, sparse) for _ in range(32)], [predicate(dice, 2 * k) for _ in range(16)],
+                                 [word(dice, shape, pattern) for shape in shapes(words.EVERY_FACT)])
         lines = walk(layout.packed(session))
-        shown = drawing.drawn(session, lines.encode(), "own").split("\n")
-        steps = split(shown[:-1])
-        expect([step[0] for step in steps] == [line.rsplit(" ", 1)[0] for line in lines.split("\n")[:-1]], "the steps that are drawn differ from walk's")
-        state = list(session.vectors)
-        for (_, tables), word, line in zip(steps, session.words, lines.split("\n")):
-            checked(tables, words.decoded(word)[1], state, bytes.fromhex(line.rsplit(" ", 1)[1])[::-1])
+        for kind in drawing.KINDS:
+            expect(read_back(session, lines, drawing.drawn(session, lines.encode(), kind), kind) == len(session.words), "steps are missing")
+    for family in ("addv", "addqv", "addlv", "adalp", "addl", "subl", "addw", "subw"):
+        expect(SEEN[family, True] and SEEN[family, False], "no sum, or every sum, of", family, "came round")
+    examples()
     kinds()
-    as_drawn()
+    short()
+    slips()
+    refused_lines()
 
 
-def split(shown):
-    """Each step's first line, and its tables: (register, letter, {row: {lane: text}})."""
-    steps = []
-    for line in shown:
-        elided = ELIDED.match(line)
-        if not line.startswith(" "):
-            steps.append((line, []))
-        elif elided:
-            into = table(steps[-1][1], elided[1], elided[2], "before" if "before" in elided[5] else "value")
-            rows = ("before", "after", "active") if "before" in elided[5] else ("value",) + MARKS
-            for lane in range(int(elided[3]), int(elided[4]) + 1):
-                for row in rows:
-                    into[row].setdefault(lane, "0")
-        else:
-            name, row, *cells = [line[2:8].strip(), line[9:15].strip()] + line[15:].split()
-            if row == "lane":
-                heading, places = name, [int(cell) for cell in cells]
-                pending = []
-            else:
-                pending.append((row, cells))
-                kind = "value" if pending[0][0] == "value" else "before"
-                into = table(steps[-1][1], heading[1:].split(".")[0], heading[-1], kind)
-                into[row].update(zip(places, cells))
-    return steps
+PATTERNS = ("dnm", "ddm", "dnd", "dnn", "ddd")  # which of the numbers d, n and m are one
 
 
-def table(tables, number, letter, kind):
-    """The step's table of a register, as a source ('value') or as the destination ('before')."""
-    for key, rows in tables:
-        if key == (int(number), letter, kind):
-            return rows
-    tables.append(((int(number), letter, kind), {name: {} for name in ("value", "before", "after") + MARKS}))
-    return tables[-1][1]
+def word(dice, shape, pattern):
+    """A word of a shape with any numbers, those equal that the pattern has equal."""
+    value, fields = shape
+    numbers = dict(zip("dnm", dice.sample(range(32), 3)))
+    for field in fields:
+        shift, most = words.FIELDS[field]
+        value |= (numbers[pattern["dnm".index(field)]] if field in "dnm" else dice.randint(0, most)) << shift
+    return value
 
 
-def row(rows, name):
-    return [int(rows[name][lane]) for lane in sorted(rows[name])]
+def register(dice, size, sparse):
+    """A register with at most three lanes that are not zero, or a full one; with the largest and the smallest numbers among them."""
+    ends = b"\xff" * 8, b"\xff" * 7 + b"\x7f", b"\0" * 7 + b"\x80", b"\xff\x7f\0\x80" * 2
+    full = b"".join(dice.choice((dice.randbytes(8), *ends)) for _ in range(size // 8))
+    if not sparse:
+        return full
+    data = bytearray(size)
+    for _ in range(dice.randrange(4)):
+        width = dice.choice((1, 2, 4, 8))
+        at = dice.randrange(size // width) * width
+        data[at:at + width] = full[at:at + width]
+    return bytes(data)
 
 
-def checked(tables, parts, state, after):
-    """One step's tables against its word, the registers before it and the destination after it."""
-    *sources, ((number, letter, kind), rows) = tables
-    width, name = BYTES[letter], parts.row.name
-    expect(number == parts.d and kind == "before", "the destination is not drawn last")
-    for (source, half, what), cells in sources:
-        expect(what == "value" and source in (parts.n, parts.m), "a source is drawn that the word has not")
-        expect(bytes_of(row(cells, "value"), BYTES[half]) == state[source], "a source is drawn otherwise than it was")
-    before, left = row(rows, "before"), row(rows, "after")
-    expect(bytes_of(before, width) == state[parts.d], "what the destination held before is drawn wrong")
-    expect(bytes_of(left, width) == after, "what the destination holds after is drawn wrong")
-    expect(bytes_of(added_up(name, sources, parts, before, rows, len(left)), width) == after, "the marked lanes do not add up:", name)
-    state[parts.d] = after
+def predicate(dice, size):
+    """A predicate with every bit, none, one missing, some stretches or any bits."""
+    every = (1 << 8 * size) - 1
+    first, last = sorted(dice.randrange(8 * size) for _ in range(2))
+    bits = dice.choice((every, 0, every ^ 1 << first, every ^ (1 << last) - (1 << first), dice.getrandbits(8 * size), dice.getrandbits(8 * size)))
+    return bits.to_bytes(size, "little")
 
 
-def added_up(name, sources, parts, before, rows, count):
-    """The destination's lanes, from what is drawn of the sources alone."""
-    if parts.row.form in (words.WIDENING, words.WIDE):
-        return widened(sources, parts, count)
-    [(_, cells)] = sources
-    marks = row(cells, "active" if cells["active"] and parts.row.form in GOVERNED else "added")
-    counted = [value * mark for value, mark in zip(row(cells, "value"), marks)]
-    if name in ("saddv", "uaddv", "saddlv", "uaddlv"):
-        return [sum(counted)] + [0] * (count - 1)
-    if name == "addqv":
-        places = 16 >> parts.size
-        return [sum(counted[place::places]) for place in range(places)] + [0] * (count - places)
-    expect([on for on in row(rows, "active") for _ in (0, 1)] == marks, "the destination's active lanes are not the pairs'")
-    return [old + counted[2 * lane] + counted[2 * lane + 1] for lane, old in enumerate(before)]
+def read_back(session, lines, shown, kind):
+    """Reads a drawing and holds it to the session and walk's lines; how many steps it has."""
+    steps, refused = steps_of(shown)
+    lines, state = lines.split("\n")[:-1], list(session.vectors)
+    if refused is not None:
+        expect(lines.pop() == refused, "the refused line is drawn otherwise:", refused)
+    expect([step.title for step in steps] == [line.rsplit(" ", 1)[0] for line in lines], "the steps that are drawn differ from walk's")
+    for step, line in zip(steps, lines):
+        after = bytes.fromhex(line.rsplit(" ", 1)[1])[::-1]
+        as_signed = kind == "signed" or kind != "unsigned" and step.title.split(" ")[2][0] == "s"
+        meant = meant_by(step.title, len(after), session.predicates, as_signed)
+        try:
+            Reading(step, meant, state, after, kind, as_signed).check()
+        except Failed as reason:
+            raise Failed("%s, as %s with k = %d: %s" % (step.title, kind, session.k, reason))
+        state[meant.d] = after
+    return len(steps)
 
 
-def widened(sources, parts, count):
-    """A widening word's lanes: what is marked added or plus of its first source, with what is added or minus of its second."""
-    half, wide = words.letter((1 << parts.size) // 2), parts.row.name[4] == "w"
-    marks, sign = (("plus", "minus"), -1) if parts.row.name[1:4] == "sub" else (("added", "added"), 1)
-    drawn = {(number, letter): cells for (number, letter, _), cells in sources}
-
-    def counted(number, letter, mark):
-        cells = drawn.get((number, letter), {"value": {}, mark: {}})
-        expect(cells["value"] and len(cells["value"]) == len(cells[mark]), "no lanes are marked", mark, "in", "z%d.%s" % (number, letter))
-        lanes = [value * on for value, on in zip(row(cells, "value"), row(cells, mark))]
-        each = len(lanes) // count
-        return [sum(lanes[place:place + each]) for place in range(0, len(lanes), each)]
-
-    first = counted(parts.n, words.letter(1 << parts.size) if wide else half, marks[0])
-    second = counted(parts.m, half, marks[1])
-    expect(len(drawn) == len({(parts.n, wide), (parts.m, False)}), "a source is drawn that the word has not")
-    return [one + sign * other for one, other in zip(first, second)]
-
-
-GOVERNED = (words.REDUCTION, words.SEGMENT, words.PAIRWISE)
-
-
-def bytes_of(lanes, width):
-    return b"".join((lane % (1 << 8 * width)).to_bytes(width, "little") for lane in lanes)
+def examples():
+    """Every example, as run draws it and of every kind."""
+    for name in sorted(os.listdir(place("examples"))):
+        if not name.endswith((".txt", ".session")):
+            continue
+        data = read("examples", name)
+        session = readable.session_of(data) if name.endswith(".txt") else layout.unpacked(data)
+        lines = walk(layout.packed(session))
+        for kind in drawing.KINDS:
+            expect(read_back(session, lines, drawing.drawn(session, lines.encode(), kind), kind), "no step is drawn of", name)
+        drawn = run("--lanes", place("examples", name))
+        expect(drawn.out.decode() == drawing.drawn(session, lines.encode(), "own") and drawn.status in (0, 3), "run draws otherwise", name)
 
 
 def kinds():
-    """A lane of each kind."""
-    for kind, lane in (("signed", "-1"), ("unsigned", "255"), ("hex", "ff")):
-        expect(drawing.text(255, 1, kind) == lane, "255 as", kind)
-    for kind, lane in (("signed", "127"), ("unsigned", "127"), ("hex", "007f")):
-        expect(drawing.text(127, 2, kind) == lane, "127 as", kind)
+    """The kinds of numbers, as run is asked for them."""
+    text = b"k 1\nz1.b -1 -1\np0.b all\nprogram\nsaddv d0, p0, z1.b\n"
+    for option, value, total in (("", "  -1  -1   0", "-2"), ("=signed", "  -1  -1   0", "-2"), ("=hex", "  ff  ff  00", "fffffffffffffffe"),
+                                 ("=unsigned", " 255  255    0", "18446744073709551614*")):
+        drawn = run("--lanes" + option, "-", stdin=text).expect(0).out.decode()
+        expect("value %s " % value in drawn and "sum of all 16 lanes: %s\n" % total in drawn, option, "is drawn as", drawn)
 
 
-# a wide difference, a wide sum of a register with itself, and a long difference of one with itself
-TEXT = b"""k 1
-z1.h 1000 -2 3 4
-z2.b 5 -6 7 8
+# sixteen channels of a byte, of which 7 is off, added up and kept in totals
+STORY = b"""k 1
+z1.b 12 11 13 12 14 10 12 127 -4 -3 -5 -4 -2 -6 -4 -3
+z2.h 0 0 0 32760
+z3.b -1 5
+p0.b 1 1 1 1 1 1 1 0 1 1 1 1 1 1 1 1
+p1.h 1 0 1 1
 program
-ssubwt z0.h, z1.h, z2.b
-uaddwb z2.h, z2.h, z2.b
-usublb z3.h, z1.b, z1.b
-"""
-LINES = b"""0 0 ssubwt z0.h, z1.h, z2.b 000000000000000000040003fff603ee
-1 0 uaddwb z2.h, z2.h, z2.b 000000000000000000000000080efa0a
-2 0 usublb z3.h, z1.b, z1.b 00000000000000000000000000000000
-"""
-DRAWN = """\
-0 0 ssubwt z0.h, z1.h, z2.b
-  z1.h   lane      0    1    2    3    4    5    6    7
-         value  1000   -2    3    4    0    0    0    0
-         plus      1    1    1    1    1    1    1    1
-  z2.b   lane    0  1  2  3  4  5  6  7  8  9 10 11 12 13 14 15
-         value   5 -6  7  8  0  0  0  0  0  0  0  0  0  0  0  0
-         minus   0  1  0  1  0  1  0  1  0  1  0  1  0  1  0  1
-  z0.h   lane      0    1    2    3    4    5    6    7
-         before    0    0    0    0    0    0    0    0
-         after  1006  -10    3    4    0    0    0    0
-1 0 uaddwb z2.h, z2.h, z2.b
-  z2.h   lane       0     1     2     3     4     5     6     7
-         value  64005  2055     0     0     0     0     0     0
-         added      1     1     1     1     1     1     1     1
-  z2.b   lane     0   1   2   3   4   5   6   7   8   9  10  11  12  13  14  15
-         value    5 250   7   8   0   0   0   0   0   0   0   0   0   0   0   0
-         added    1   0   1   0   1   0   1   0   1   0   1   0   1   0   1   0
-  z2.h   lane       0     1     2     3     4     5     6     7
-         before 64005  2055     0     0     0     0     0     0
-         after  64010  2062     0     0     0     0     0     0
-2 0 usublb z3.h, z1.b, z1.b
-  z1.b   lane     0   1   2   3   4   5   6   7   8   9  10  11  12  13  14  15
-         value  232   3 254 255   3   0   4   0   0   0   0   0   0   0   0   0
-         plus     1   0   1   0   1   0   1   0   1   0   1   0   1   0   1   0
-         minus    1   0   1   0   1   0   1   0   1   0   1   0   1   0   1   0
-  z3.h   lanes 0 to 7: 0 before and after
+saddv d0, p0, z1.b
+addqv v4.16b, p0, z1.b
+sadalp z2.h, p1/m, z1.b
+usublb z5.h, z3.b, z1.b
+uaddlv h6, v1.8b
 """
 
 
-def as_drawn():
-    """How wide sums and differences are drawn, line by line; walk prints the lines that are drawn from."""
-    session = readable.session_of(TEXT)
-    expect(walk(layout.packed(session)) == LINES.decode(), "walk prints other lines for differences and wide sums")
-    expect(drawing.drawn(session, LINES, "own") == DRAWN, "differences and wide sums are drawn otherwise:", drawing.drawn(session, LINES, "own"))
+def slips():
+    """Drawings that are wrong in one place: a reader who trusts the picture would be misled, and the reader here finds each."""
+    session = readable.session_of(STORY)
+    lines = walk(layout.packed(session))
+    shown = drawing.drawn(session, lines.encode(), "own")
+    read_back(session, lines, shown, "own")
+    head, saddv, addqv, sadalp, usublb, uaddlv = shown.split("\n\n")
+    for step, old, new in (
+        (saddv, " 0   1   2   3   4   5   6   7   8   9  10  11  12  13  14  15", " 1   2   3   4   5   6   7   8   9  10  11  12  13  14  15  16"),
+        (saddv, "+ off   +", "+   + off"), (saddv, "+ off   +", "+   +   +"), (saddv, "lane 7 is off", "lane 8 is off"),
+        (saddv, "15 of 16", "16 of 16"), (saddv, "  12 127  -4", " 127  12  -4"), (saddv, "active lanes: 53", "active lanes: 54"),
+        (saddv, "after   53   0", "after    0  53"), (saddv, "lane     0   1   2", "lane    0   1    2"), (saddv, "as Arm counts", "as we count"),
+        (addqv, "sum     12  11", "sum     11  12"), (addqv, "sum     12", "sum    12 "), (addqv, "  12   0 252", "   0  12 252"),
+        (addqv, "\n1 0", "1 0"),
+        (sadalp, "kept", "   0"), (sadalp, "32760 |", "32759 |"), (sadalp, "-32637*|", "-32637 |"), (sadalp, "-32637*|", " 32637*|"),
+        (sadalp, "modulo 65536 (2^16)", "modulo 256 (2^8)"), (sadalp, "off and kept", "off"),
+        (sadalp, "| off off |   +   + |", "|   +   + | off off |"), (sadalp, "|       0 |       1 |", "|       1 |       0 |"),
+        (sadalp, "|       0 |       1 |", "|     0 |         1 |"), (usublb, "|   0   1 |   2   3 |", "|   0   1 |   3   2 |"),
+        (usublb, "   -   . |", "   .   - |"), (usublb, "   243 |", "   244 |"), (usublb, "   243 |", "   243*|"),
+        (usublb, "the even lanes", "the odd lanes"), (uaddlv, "lanes 8 to 15", "lanes 9 to 15"), (uaddlv, "+   +\n", "+   .\n"),
+        (uaddlv, "z6.h", "z7.h"),
+    ):
+        at = shown.index(old, 0 if old in head else shown.index(step) - 1)
+        wrong = shown[:at] + new + shown[at + len(old):]
+        expect(not holds(session, lines, wrong), new, "in place of", old, "is not found in", step)
+
+
+def holds(session, lines, shown):
+    """Whether a drawing is that of the walk."""
+    try:
+        read_back(session, lines, shown, "own")
+        return True
+    except (Failed, ValueError, LookupError):
+        return False
+
+
+def short():
+    """At k = 16 a step of registers that are zero but for a lane or two is told in few lines, whichever lanes are off."""
+    dice = random.Random(6)
+    for shape in shapes(words.EVERY_FACT):
+        for lane in (None, 0, 77, 255):
+            vectors = [bytes(256)] * 32
+            if lane is not None:
+                vectors[1] = vectors[2] = bytes(lane) + b"\x7f" + bytes(255 - lane)
+            value, fields = shape
+            number = value | sum({"d": 0, "n": 1, "m": 2, "g": 0}[field] << words.FIELDS[field][0] for field in fields)
+            session = layout.Session(16, vectors, [predicate(dice, 32)] * 16, [number])
+            lines = walk(layout.packed(session))
+            shown = drawing.drawn(session, lines.encode(), "own")
+            expect(read_back(session, lines, shown, "own") == 1, "no step is drawn")
+            sentences = max(12, shown.count("of these") * 24)  # any lanes may be off, and are listed
+            expect(shown.count("\n") < sentences + (10 if lane is not None else 0), "many lines are drawn of little:", shown)
+
+
+def refused_lines():
+    """What show-lanes refuses as lines of a session: in one sentence, without letters that a terminal would obey, and with status 3."""
+    session = readable.session_of(b"k 1\nfacts sve\nz1.b 1 2\np0.b all\nprogram\nsaddv d0, p0, z1.b\nuaddv d3, p0, z1.b\nsadalp z3.h, p0/m, z1.b\n")
+    lines = walk(layout.packed(session)).encode()
+    first, second, third = lines.splitlines(True)
+    expect(third == b"2 8 4444a023\n", "walk ends otherwise:", third)
+    with tempfile.TemporaryDirectory() as room:
+        paths = [os.path.join(room, name) for name in ("session", "lines")]
+
+        def shown(data, kind="own", given=session):
+            for path, written in zip(paths, (layout.packed(given), data)):
+                with open(path, "wb") as file:
+                    file.write(written)
+            return Ran(["python3", place("bin/show-lanes"), kind, *paths])
+
+        for kind in drawing.KINDS:
+            shown(lines, kind).expect(0, out=drawing.drawn(session, lines, kind).encode())
+        shown(b"14\n").expect(0, out=b"14\n")
+        shown(b"0 8 04002020\n", given=session._replace(facts=0)).expect(0, out=b"0 8 04002020\n")
+        shown(b"", given=session._replace(words=[])).expect(0, out=b"")
+        every = session._replace(facts=31)
+        for data, given in [(data, session) for data in not_its_own(first, second, third)] + [(lines, every), (lines, session._replace(words=[]))]:
+            said = shown(data, given=given).expect(3, "show-lanes: " + paths[0] + ": ", out=b"").err
+            expect(re.fullmatch("[ -~]*\n", said), "it is refused in other than one plain line:", said)
+        shown(lines, "octal").expect(2, "give own, signed, unsigned or hex", out=b"")
+        Ran(["python3", place("bin/show-lanes"), "own", paths[1], paths[1]]).expect(3, "it does not begin with the mark LNW", out=b"")
+        Ran(["python3", place("bin/show-lanes"), "own", paths[0], os.path.join(room, "none")]).expect(1, "No such file", out=b"")
+    shown = Ran(["python3", place("bin/show-lanes"), "--help"]).expect(0)
+    expect(b"Exit status: 0" in shown.out and not shown.err, "--help")
+
+
+def not_its_own(first, second, third):
+    """Lines that are not walk's for the session of these three."""
+    lines, rest = first + second + third, second + third
+    return [
+        b"", b"\n", b"anything\n", b"\x1b[2J\x07\n", b"\xff\xfe\x85\n", first + b"\x1b]0;title\x07\n" + third, first.replace(b"\n", b"\x0b") + rest,
+        first, first + second, third, second + first + third, first + first + third, lines + third, lines + b"\n", lines[:-1],
+        first[:-1] + b"\r\n" + rest, first[:-1] + b" \n" + rest, b" " + lines, b"0" + lines, first.upper() + rest,
+        first.replace(b"0 0", b"0 1") + rest, first.replace(b"z1.b", b"z2.b") + rest, first.replace(b" 00", b" 0") + rest,
+        first.replace(b" 00", b" 000") + rest, first.replace(b" 00", b" 01") + rest, first.replace(b" 00", b" 0x") + rest,
+        first.replace(b" 00", b" +0") + rest, first.replace(b"03\n", b"04\n") + rest,
+        first + second + b"2 7 4444a023\n", first + second + b"2 9 4444a023\n", first + second + b"2 8 4444a024\n",
+        first + second + b"2 8 4444A023\n",
+        first + second + b"2 0 sadalp z3.h, p0/m, z1.b " + b"0" * 28 + b"0006\n", first + b"1 8 04012023\n", b"14", b"14\n14\n", first + b"14\n",
+    ]

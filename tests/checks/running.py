@@ -20,7 +20,6 @@ def check():
         longest()
         names(room)
         outputs()
-        lanes()
         links(room)
         explained(Checkout(room).built(), os.path.join(room, "facts.session"))
 
@@ -111,16 +110,6 @@ def outputs():
     os.close(ends)
     run(stdout=into).expect(1, "could not be written to its end")
     os.close(into)
-
-
-def lanes():
-    """Lanes as the word has them, and of each kind."""
-    for option, lane in (("--lanes", b"  z0.d   lane    0  1\n         before  0  0\n         after  -2  0\n"),
-                         ("--lanes=signed", b"         after  -2  0\n"),
-                         ("--lanes=unsigned", b"         after  18446744073709551614                    0\n"),
-                         ("--lanes=hex", b"         after  fffffffffffffffe 0000000000000000\n")):
-        out = run(option, "-", stdin=TEXT.replace(b"1 2", b"-1 -1")).expect(0).out
-        expect(lane in out, lane, "is not drawn in", out)
 
 
 def links(room):
