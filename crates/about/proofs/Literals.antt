@@ -4,7 +4,8 @@
 use Prim.Native.Nat.{ℕ}
 use mathlib.Core.Path.{_≡_, refl}
 use mathlib.Core.Bool.{Bool, true, false}
-use mathlib.Core.List.{List, [], _∷_, map}
+use mathlib.Core.List.{List, [], _∷_, _++_}
+use Rattle.lanes.specs.Sum.{each}
 use Rattle.rows.specs.Table.{rowAt}
 use Rattle.cores.specs.Need.{needOf}
 use Rattle.about.specs.declared.About.{About}
@@ -39,7 +40,7 @@ lanesFrom1 = 0 ∷ 2 ∷ 4 ∷ 8 ∷ []
 abbrev pub halves : List ℕ
 halves = 0 ∷ 1 ∷ 2 ∷ 4 ∷ []
 
--- a word that pairs, a long one and a wide one, by their sign
+-- a word that pairs, a long one and a wide one, by their sign; and four words: signed bottom and top, unsigned bottom and top
 abbrev pub pairs : Bool → About
 pairs signed = told signed true false false true 10 halves none lanesFrom1
 
@@ -49,8 +50,11 @@ long signed = told signed false true false false 10 halves halves lanesFrom1
 abbrev pub wide : Bool → About
 wide signed = told signed false true false false 10 lanesFrom1 halves lanesFrom1
 
--- saddv, uaddv, addqv, saddlv, uaddlv, sadalp, uadalp; then by fours, s b and t, u b and t: saddl, ssubl, saddw, ssubw; and past the last RANGE
-pub rows-literal : map aboutAnswer (0 ∷ 1 ∷ 2 ∷ 3 ∷ 4 ∷ 5 ∷ 6 ∷ 7 ∷ 8 ∷ 9 ∷ 10 ∷ 11 ∷ 12 ∷ 13 ∷ 14 ∷ 15 ∷ 16 ∷ 17 ∷ 18 ∷ 19 ∷ 20 ∷ 21 ∷ 22 ∷ 23 ∷ [])
+abbrev pub four : (Bool → About) → List About
+four about = about true ∷ about true ∷ about false ∷ about false ∷ []
+
+-- saddv, uaddv, addqv, saddlv, uaddlv, sadalp, uadalp; then saddl, ssubl, saddw and ssubw with their mates; and past the last RANGE
+pub rows-literal : each aboutAnswer 0 24
     ≡ told true true false false false 9 (1 ∷ 2 ∷ 4 ∷ 0 ∷ []) none (8 ∷ 8 ∷ 8 ∷ 0 ∷ [])
     ∷ told false true false false false 9 whole none (8 ∷ 8 ∷ 8 ∷ 8 ∷ [])
     ∷ told false true false false false 20 whole none whole
@@ -58,23 +62,6 @@ pub rows-literal : map aboutAnswer (0 ∷ 1 ∷ 2 ∷ 3 ∷ 4 ∷ 5 ∷ 6 ∷ 7 
     ∷ told false false false true false 0 (1 ∷ 2 ∷ 4 ∷ 0 ∷ []) none (2 ∷ 4 ∷ 8 ∷ 0 ∷ [])
     ∷ pairs true
     ∷ pairs false
-    ∷ long true
-    ∷ long true
-    ∷ long false
-    ∷ long false
-    ∷ long true
-    ∷ long true
-    ∷ long false
-    ∷ long false
-    ∷ wide true
-    ∷ wide true
-    ∷ wide false
-    ∷ wide false
-    ∷ wide true
-    ∷ wide true
-    ∷ wide false
-    ∷ wide false
-    ∷ noAbout 13
-    ∷ []
+    ∷ (four long ++ four long ++ four wide ++ four wide ++ noAbout 13 ∷ [])
 unfolding rowTold rowAt needOf
 rows-literal = refl

@@ -17,19 +17,9 @@ bytesOf s operand low = lowBytes low operand (s .args .w)
 returns-5 : tie.Need-returns-5
 returns-5 c = of-arms (bytesOf (c .before .before .before .before)) (c .before .before .enum-told3 .given .1) (c .enum-told6 .given .1) refl
 
+-- what the arms of the operand are told, then those of the destination's family, and what each returns
 pub low-bytes-spec : {M : Type 1} → statement M
 low-bytes-spec =
-    tie.close
-    (tie.spec
-    (λ c. search needs)  -- enum-told
-    (λ c. search needs)  -- enum-told-2
-    (λ c. search needs)  -- enum-told-3
-    (λ c. search needs)  -- enum-told-4
-    (λ c. search needs)  -- enum-told-5
-    (λ c. search needs)  -- enum-told-6
-    (λ c. search needs)  -- mul-result
-    (λ c. search needs)  -- returns
-    (λ c. search needs)  -- returns-2
-    (λ c. search needs)  -- returns-3
-    (λ c. search needs)  -- returns-4
-    returns-5)
+    let operands = tie.spec (λ c. search needs) (λ c. search needs) (λ c. search needs) in
+    let families = operands (λ c. search needs) (λ c. search needs) (λ c. search needs) (λ c. search needs) in
+    tie.close (families (λ c. search needs) (λ c. search needs) (λ c. search needs) (λ c. search needs) returns-5)

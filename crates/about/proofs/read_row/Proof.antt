@@ -62,20 +62,10 @@ returns-2 c =
     (c .before .bytes-by-size2 .ensures)
     (c .bytes-by-size3 .ensures)
 
+-- what the refusal asks, then what the form, the fields, the need and the three lists of bytes ask of their calls
 pub read-row-spec : {M : Type 1} → statement M
 read-row-spec =
-    tie.close
-    (tie.spec
-    (λ c κs. search needs)  -- no-about-requires
-    returns
-    (λ c κs. search needs)  -- form-of-requires
-    (λ c κs. search needs)  -- governing-digits-requires
-    (λ c κs. search needs)  -- second-digits-requires
-    (λ c κs. search needs)  -- q-digits-requires
-    (λ c κs. search needs)  -- reads-destination-requires
-    (λ c κs. search needs)  -- need-of-requires
-    (λ c κs. search needs)  -- need-byte-requires
-    (λ c κs. search needs)  -- bytes-by-size-requires
-    (λ c κs. search needs)  -- bytes-by-size-requires-2
-    (λ c κs. search needs)  -- bytes-by-size-requires-3
-    returns-2)
+    let refusal = tie.spec (λ c κs. search needs) returns in
+    let fields = refusal (λ c κs. search needs) (λ c κs. search needs) (λ c κs. search needs) (λ c κs. search needs) in
+    let need = fields (λ c κs. search needs) (λ c κs. search needs) (λ c κs. search needs) in
+    tie.close (need (λ c κs. search needs) (λ c κs. search needs) (λ c κs. search needs) returns-2)

@@ -30,22 +30,10 @@ returns-5 c =
 returns-6 : tie.Need-returns-6
 returns-6 c = of-arms (bytesOf (c .before .before .before .before)) (c .before .before .enum-told5 .given .1) (c .enum-told7 .given .1) refl
 
+-- what each family's arms are told, then what they return
 pub wide-bytes-spec : {M : Type 1} → statement M
 wide-bytes-spec =
-    tie.close
-    (tie.spec
-    (λ c. search needs)  -- enum-told
-    (λ c. search needs)  -- enum-told-2
-    (λ c. search needs)  -- enum-told-3
-    (λ c. search needs)  -- enum-told-4
-    (λ c. search needs)  -- enum-told-5
-    (λ c. search needs)  -- enum-told-6
-    (λ c. search needs)  -- enum-told-7
-    (λ c. search needs)  -- enum-told-8
-    returns
-    (λ c. search needs)  -- returns-2
-    (λ c. search needs)  -- returns-3
-    (λ c. search needs)  -- returns-4
-    returns-5
-    returns-6
-    (λ c. search needs))  -- returns-7
+    let pairwise = tie.spec (λ c. search needs) (λ c. search needs) (λ c. search needs) (λ c. search needs) in
+    let widening = pairwise (λ c. search needs) (λ c. search needs) (λ c. search needs) (λ c. search needs) in
+    let pairs = widening returns (λ c. search needs) (λ c. search needs) in
+    tie.close (pairs (λ c. search needs) returns-5 returns-6 (λ c. search needs))
