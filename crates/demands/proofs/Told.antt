@@ -15,7 +15,7 @@ use Rattle.parts.proofs.Same.{both-left}
 use Rattle.machine.specs.Size.{vectors, predicates, sizes, vectorBytes}
 use Rattle.machine.specs.Refusal.{DONE}
 use Rattle.registers.specs.Register.{Register, IsRegister, vectorOf, predicateOf, numbered, registerBytes}
-use Rattle.registers.specs.State.{State, read}
+use Rattle.registers.specs.State.{State, Sized, read}
 use Rattle.registers.proofs.Places.{bytes-most}
 use Rattle.registers.proofs.Numbers.{numbered-is}
 use Rattle.registers.proofs.States.{read-write}
@@ -31,8 +31,13 @@ use Rattle.rows.specs.declared.LowFamily.the-variants.{Reduction, Segment, Long
 use Rattle.rows.specs.declared.WideFamily.the-variants.{Pairwise, Widening}
 use Rattle.words.specs.Sizes.{allows, allowsFamily}
 use Rattle.words.specs.declared.Fields.{Fields}
+use Rattle.words.specs.declared.Decoded.the-variants.{Word}
 use Rattle.words.proofs.Decoding.{governing-below, q-below}
+use Rattle.words.proofs.Encoding.{decoded-in-range}
+use Rattle.facts.specs.declared.Facts.{Facts}
 use Rattle.cores.specs.Need.{either}
+use Rattle.cores.specs.Core.{decodedOn}
+use Rattle.cores.proofs.Answers.{core-decodes}
 use Rattle.totals.specs.Lane.{lanesAt, laneTold}
 use Rattle.totals.specs.declared.Lane.{Lane}
 use Rattle.totals.proofs.Accepted.{Accepted}
@@ -175,6 +180,13 @@ module _ (f : Fields) (k : ℕ) (s : State) (x : Executable f k s) where
         (k-least f k s x)
         (x .fields .allowed)
         lies)
+
+-- so of every word that a core accepts, over files of a legal length: all that may feed its lanes is told, and the bytes of the lanes that it writes
+pub word-as-told : (facts : Facts) (word : ℕ) (f : Fields) (k : ℕ) (s : State) → decodedOn facts word ≡ Word f → Sized k s
+    → ((e : ℕ) → e < lanesFor f k → Each (TermTold f k s e) (feeds f k (maskOf f k s) e)) × (bytesTold (aboutAnswer (f .row)) Old (f .size) ≡ widthFor f)
+word-as-told facts word f k s accepted sized =
+    let executes : Executable f k s = record { lent = sized; fields = decoded-in-range word f (core-decodes facts word f accepted) } in
+    (fed-as-told f k s executes, row-writes f k s executes)
 
 module _ (k : ℕ) (b after : Buffers) (made : Backed k b DONE after) where
   -- the journal before, its last entry and that one's register
