@@ -5,12 +5,13 @@ use mathlib.Core.Path.{_≡_, refl, sym, _∙_, ap}
 use mathlib.Core.Logic.{_↔_, _⊎_, inl, inr, ⊎-elim}
 use mathlib.Core.Bool.{Bool, true, false, not}
 use native.Mathlib.Omega.{arith}
-use lib.Dec.{eqb}
-use borrow.Author.Tests.{eqb-true, lt-leb}
+use lib.Dec.{eqb, ltb}
+use borrow.Author.Tests.{eqb-true, eqb-false, ltb-true}
+use Rattle.parts.specs.Part.{both}
+use Rattle.parts.proofs.Same.{both-left, both-right}
 use Rattle.machine.specs.Refusal.{DONE, UNDEFINED}
 use Rattle.facts.specs.Facts.{factsOf, hasBit}
 use Rattle.facts.specs.declared.Facts.{Facts}
-use Rattle.rows.specs.Table.{rows}
 use Rattle.rows.proofs.Every.{every, at-each}
 use Rattle.rows.proofs.OneRow.{row-found}
 use Rattle.words.specs.Decode.{decoded, numberOf, RowWith}
@@ -24,53 +25,37 @@ use Rattle.cores.specs.declared.Need.the-variants.{Nothing, SveOrSme, Sve2OrSme
 use Rattle.cores.specs.Core.{granted, decodedOn}
 use Rattle.cores.proofs.Answers.{on-core, done-word}
 use Rattle.cores.proofs.Deciding.{has-sve-or-sme, has-sve2-or-sme, has-sve2p1-or-sme2p1}
-use Rattle.about.specs.About.{needByte, rowTold, aboutAnswer, Enough}
+use Rattle.about.specs.About.{needByte, aboutAnswer, Enough}
+use Rattle.about.proofs.Answers.{need-told}
 
--- the bits of a byte are at most two: computed over the eight, and then said of one that is set
-abbrev BitsAre : ℕ → ℕ → ℕ → Type 0
-BitsAre byte a b = every 8 (λ i. either (not (hasBit byte (2 ^ i))) (either (eqb i a) (eqb i b))) ≡ true
+-- of a byte: each bit that is set is a or b
+abbrev onlyBits : ℕ → ℕ → ℕ → Bool
+onlyBits byte a b = every 8 (λ i. either (not (hasBit byte (2 ^ i))) (either (eqb i a) (eqb i b)))
 
+-- where a test holds, one of the two that it implies does
 one-of : (t p q : Bool) → either (not t) (either p q) ≡ true → t ≡ true → (p ≡ true) ⊎ (q ≡ true)
 one-of true true q e s = inl refl
 one-of true false q e s = inr e
 one-of false p q e s = inl (cc)
 
-set-bit : (byte a b : ℕ) → BitsAre byte a b → (i : ℕ) → i < 8 → hasBit byte (2 ^ i) ≡ true → (i ≡ a) ⊎ (i ≡ b)
-set-bit byte a b only i few set =
-    ⊎-elim (λ e. inl (eqb-true i a e)) (λ e. inr (eqb-true i b e))
-    (one-of (hasBit byte (2 ^ i)) (eqb i a) (eqb i b) (at-each 8 (λ j. either (not (hasBit byte (2 ^ j))) (either (eqb j a) (eqb j b))) only i few) set)
+-- facts are enough for a byte whose bits are a and b, and no other, exactly where they have a or b
+module _ (need a b : ℕ) (few : both (ltb a 8) (ltb b 8) ≡ true) (set : both (hasBit need (2 ^ a)) (hasBit need (2 ^ b)) ≡ true) (only : onlyBits need a b ≡ true)
+    (some : eqb need 0 ≡ false) (byte : ℕ) where
+  set-bit : (i : ℕ) → i < 8 → hasBit need (2 ^ i) ≡ true → (i ≡ a) ⊎ (i ≡ b)
+  set-bit i small is =
+      ⊎-elim (λ e. inl (eqb-true i a e)) (λ e. inr (eqb-true i b e))
+      (one-of (hasBit need (2 ^ i)) (eqb i a) (eqb i b) (at-each 8 (λ j. either (not (hasBit need (2 ^ j))) (either (eqb j a) (eqb j b))) only i small) is)
 
--- a byte whose bits are a and b, and no other
-record Two (byte a b : ℕ) : Type 0 where
-  only : BitsAre byte a b
-  first-few : a < 8
-  second-few : b < 8
-  first : hasBit byte (2 ^ a) ≡ true
-  second : hasBit byte (2 ^ b) ≡ true
-  some : byte ≡ 0 → ⊥
+  has-one : Enough byte need → (hasBit byte (2 ^ a) ≡ true) ⊎ (hasBit byte (2 ^ b) ≡ true)
+  has-one (inl e) = absurd (eqb-false need 0 some e)
+  has-one (inr s) = ⊎-elim (λ e. inl (rw e at (s .first))) (λ e. inr (rw e at (s .first))) (set-bit (s .bit) (s .few) (s .second))
 
--- facts are enough for it exactly where they have a or b
-enough-two : (need a b : ℕ) → Two need a b → (byte : ℕ) → Enough byte need ↔ ((hasBit byte (2 ^ a) ≡ true) ⊎ (hasBit byte (2 ^ b) ≡ true))
-enough-two need a b two byte = (has-one, one-enough)
-  where
-    has-one : Enough byte need → (hasBit byte (2 ^ a) ≡ true) ⊎ (hasBit byte (2 ^ b) ≡ true)
-    has-one (inl e) = absurd (two .some e)
-    has-one (inr s) =
-        ⊎-elim (λ e. inl (rw e at (s .first))) (λ e. inr (rw e at (s .first))) (set-bit need a b (two .only) (s .bit) (s .few) (s .second))
+  one-enough : (hasBit byte (2 ^ a) ≡ true) ⊎ (hasBit byte (2 ^ b) ≡ true) → Enough byte need
+  one-enough (inl e) = inr (record { bit = a; few = ltb-true a 8 (both-left _ _ few); first = e; second = both-left _ _ set })
+  one-enough (inr e) = inr (record { bit = b; few = ltb-true b 8 (both-right (ltb a 8) _ few); first = e; second = both-right (hasBit need (2 ^ a)) _ set })
 
-    one-enough : (hasBit byte (2 ^ a) ≡ true) ⊎ (hasBit byte (2 ^ b) ≡ true) → Enough byte need
-    one-enough (inl e) = inr (record { bit = a; few = two .first-few; first = e; second = two .first })
-    one-enough (inr e) = inr (record { bit = b; few = two .second-few; first = e; second = two .second })
-
--- the three needs: bits 0 and 3, 1 and 3, 2 and 4
-sve-or-sme : Two (needByte SveOrSme) 0 3
-sve-or-sme = record { only = refl; first-few = omega arith; second-few = omega arith; first = refl; second = refl; some = λ e. omega arith }
-
-sve2-or-sme : Two (needByte Sve2OrSme) 1 3
-sve2-or-sme = record { only = refl; first-few = omega arith; second-few = omega arith; first = refl; second = refl; some = λ e. omega arith }
-
-sve2p1-or-sme2p1 : Two (needByte Sve2p1OrSme2p1) 2 4
-sve2p1-or-sme2p1 = record { only = refl; first-few = omega arith; second-few = omega arith; first = refl; second = refl; some = λ e. omega arith }
+  enough-two : Enough byte need ↔ ((hasBit byte (2 ^ a) ≡ true) ⊎ (hasBit byte (2 ^ b) ≡ true))
+  enough-two = (has-one, one-enough)
 
 -- two statements that each hold exactly where a third does
 both-exactly : {A B C : Type 0} → A ↔ B → C ↔ B → A ↔ C
@@ -80,14 +65,9 @@ both-exactly p q = (λ x. q .1 (p .0 x), λ x. p .1 (q .0 x))
 pub has-enough : (byte : ℕ) (need : Need) → has (factsOf byte) need ≡ true ↔ Enough byte (needByte need)
 unfolding factsOf
 has-enough byte Nothing = (λ e. inl refl, λ h. refl)
-has-enough byte SveOrSme = both-exactly (has-sve-or-sme (factsOf byte)) (enough-two _ 0 3 sve-or-sme byte)
-has-enough byte Sve2OrSme = both-exactly (has-sve2-or-sme (factsOf byte)) (enough-two _ 1 3 sve2-or-sme byte)
-has-enough byte Sve2p1OrSme2p1 = both-exactly (has-sve2p1-or-sme2p1 (factsOf byte)) (enough-two _ 2 4 sve2p1-or-sme2p1 byte)
-
--- what is told of the need of a row that there is
-pub need-told : (row : ℕ) → row < rows → aboutAnswer row .need ≡ needByte (needOf row)
-unfolding rowTold
-need-told row h = rw (lt-leb rows row h)
+has-enough byte SveOrSme = both-exactly (has-sve-or-sme (factsOf byte)) (enough-two _ 0 3 refl refl refl refl byte)
+has-enough byte Sve2OrSme = both-exactly (has-sve2-or-sme (factsOf byte)) (enough-two _ 1 3 refl refl refl refl byte)
+has-enough byte Sve2p1OrSme2p1 = both-exactly (has-sve2p1-or-sme2p1 (factsOf byte)) (enough-two _ 2 4 refl refl refl refl byte)
 
 -- the number of fields on a core, by whether it has what their row needs
 granted-done : (facts : Facts) (f : Fields) → numberOf (granted facts f) ≡ DONE ↔ has facts (needOf (f .row)) ≡ true

@@ -57,7 +57,7 @@ pub(crate) fn held_subtotal(
 ) -> LnAnswer
     ensures { λ r. ⌜ Subtotalled k (now (z .entry)) (now (p .entry)) source governing size «is_signed» a b r ⌝ }
 {
-    crate::ln_subtotal(k, z, p, source, governing, size, is_signed, a, b)
+    crate::asked::ln_subtotal(k, z, p, source, governing, size, is_signed, a, b)
 }
 
 // A program's word by the host's call: the number, the word and the place after it.
@@ -134,11 +134,11 @@ pub(crate) fn held_register_place(
     z: &[u8],
     p: &[u8],
     predicate: u64,
-    number: usize,
+    index: usize,
 ) -> LnPlace
-    ensures { λ r. ⌜ RegisterPlaced k (now (z .entry)) (now (p .entry)) predicate number r ⌝ }
+    ensures { λ r. ⌜ RegisterPlaced k (now (z .entry)) (now (p .entry)) predicate index r ⌝ }
 {
-    crate::ln_register_place(k, z, p, predicate, number)
+    crate::asked::ln_register_place(k, z, p, predicate, index)
 }
 
 // A panel by the host's call: the number and every byte of the output.
@@ -153,7 +153,7 @@ pub(crate) fn held_panel(
 ) -> u64
     ensures { λ r. ⌜ PanelWritten k (now (z .entry)) (now (p .entry)) source governing size (now (out .entry)) r (now (out .exit)) ⌝ }
 {
-    crate::ln_panel(k, z, p, source, governing, size, out)
+    crate::asked::ln_panel(k, z, p, source, governing, size, out)
 }
 
 // A lane by the host's call: the number, and all that is told of it.
@@ -169,21 +169,21 @@ pub(crate) fn held_read_lane(
 ) -> LnLane
     ensures { λ r. ⌜ LaneRead k (now (z .entry)) (now (p .entry)) source predicate size «is_signed» lane r ⌝ }
 {
-    crate::ln_read_lane(k, z, p, source, predicate, size, is_signed, lane)
+    crate::asked::ln_read_lane(k, z, p, source, predicate, size, is_signed, lane)
 }
 
 // A journal's entry by the host's call: the number, the register's number, and where its old bytes stand.
 pub(crate) fn held_read_entry(k: usize, journal: &[u8], index: usize) -> LnEntry
     ensures { λ r. ⌜ EntryRead k (now (journal .entry)) index r ⌝ }
 {
-    crate::ln_read_entry(k, journal, index)
+    crate::asked::ln_read_entry(k, journal, index)
 }
 
 // A row by the host's call: the number, and all that is told of it.
 pub(crate) fn held_read_row(row: usize) -> LnRowAbout
     ensures { λ r. ⌜ RowRead row r ⌝ }
 {
-    crate::ln_read_row(row)
+    crate::asked::ln_read_row(row)
 }
 
 // The version by the host's call.

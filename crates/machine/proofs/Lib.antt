@@ -3,3 +3,4 @@ pub mod Tests
 pub mod Legal
 pub mod Checks
 pub mod Literals
+pub mod Sizes

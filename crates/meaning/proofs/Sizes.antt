@@ -8,6 +8,7 @@ use lib.Dec.{eqb, leb}
 use lib.ListN.{length}
 use borrow.Author.Tests.{leb-true}
 use Rattle.machine.specs.Size.{vectors, vectorBytes, predicateBytes, segmentBytes, mostLength}
+use Rattle.machine.proofs.Sizes.{of-four}
 use Rattle.machine.proofs.Checks.{legal-least, legal-most}
 use Rattle.parts.proofs.Same.{both-left, both-right}
 use Rattle.registers.specs.Register.{vectorOf, predicateOf, InFile}
@@ -35,33 +36,25 @@ use Rattle.registers.proofs.Padded.{length-padded}
 pub false-not-true : false ≡ true → ⊥
 false-not-true e = let z : _≡_ {A = ℕ} 0 1 = cc in omega arith
 
--- a fact of the four sizes
-sizes : (P : ℕ → Type 0) → P 0 → P 1 → P 2 → P 3 → (size : ℕ) → size < 4 → P size
-sizes P a b c d zero h = a
-sizes P a b c d (suc zero) h = b
-sizes P a b c d (suc (suc zero)) h = c
-sizes P a b c d (suc (suc (suc zero))) h = d
-sizes P a b c d (suc (suc (suc (suc n)))) h = absurd (omega arith)
-
 -- lanes of each size fill a register
 pub whole : (k size : ℕ) → size < 4 → vectorBytes k / widthOf size * widthOf size ≡ vectorBytes k
-whole k = sizes (λ s. vectorBytes k / widthOf s * widthOf s ≡ vectorBytes k) (omega arith) (omega arith) (omega arith) (omega arith)
+whole k = of-four (λ s. vectorBytes k / widthOf s * widthOf s ≡ vectorBytes k) (omega arith) (omega arith) (omega arith) (omega arith)
 
 -- a lane of more than one byte is two half lanes
 halves : (size : ℕ) → size < 4 → 1 ≤ size → widthOf size / 2 * 2 ≡ widthOf size
-halves = sizes (λ s. 1 ≤ s → widthOf s / 2 * 2 ≡ widthOf s) (λ h. absurd (omega arith)) (λ h. refl) (λ h. refl) (λ h. refl)
+halves = of-four (λ s. 1 ≤ s → widthOf s / 2 * 2 ≡ widthOf s) (λ h. absurd (omega arith)) (λ h. refl) (λ h. refl) (λ h. refl)
 
 -- and has two bytes, four or eight
 eight : (size : ℕ) → size < 4 → 1 ≤ size → (widthOf size ≡ 2 → ⊥) → (widthOf size ≡ 4 → ⊥) → widthOf size ≡ 8
 eight =
-    sizes (λ s. 1 ≤ s → (widthOf s ≡ 2 → ⊥) → (widthOf s ≡ 4 → ⊥) → widthOf s ≡ 8) (λ h. absurd (omega arith)) (λ h not2 not4. absurd (not2 refl))
+    of-four (λ s. 1 ≤ s → (widthOf s ≡ 2 → ⊥) → (widthOf s ≡ 4 → ⊥) → widthOf s ≡ 8) (λ h. absurd (omega arith)) (λ h not2 not4. absurd (not2 refl))
     (λ h not2 not4. absurd (not4 refl))
     (λ h not2 not4. refl)
 
 -- the long families' lanes have at most eight bytes at twice the width
 doubles : (q size : ℕ) → size < 4 → allowsLong q size ≡ true → 2 * widthOf size ≤ 8
 doubles q =
-    sizes (λ s. allowsLong q s ≡ true → 2 * widthOf s ≤ 8) (λ a. omega arith) (λ a. omega arith) (λ a. omega arith)
+    of-four (λ s. allowsLong q s ≡ true → 2 * widthOf s ≤ 8) (λ a. omega arith) (λ a. omega arith) (λ a. omega arith)
     (λ a. absurd (false-not-true (both-right (not (eqb (3 * 2 + q) 0b100)) false a)))
 
 -- the low families write lanes of at most eight bytes, sixteen bytes in all

@@ -16,8 +16,8 @@ use Rattle.lanes.specs.Integer.{residue}
 use Rattle.lanes.specs.Sum.{each, element, counted, activeElement, wrappedSum}
 use Rattle.lanes.proofs.Sums.{wrapped-sum, same-each, map-each}
 use Rattle.sums.specs.Sums.{laneSum}
-use Rattle.totals.specs.Calls.{subtotalRefused, subtotalAnswer}
-use Rattle.totals.specs.Lane.{lanesAt, laneTests, laneRefused, laneTold, laneAnswer, laneAdds}
+use Rattle.totals.specs.Calls.{lanesAt, subtotalRefused, subtotalAnswer}
+use Rattle.totals.specs.Lane.{laneTests, laneRefused, laneTold, laneAnswer, laneAdds}
 use Rattle.totals.specs.declared.Lane.{Lane}
 use Rattle.totals.proofs.Accepted.{Accepted, subtotal-accepted}
 use Rattle.totals.proofs.OneLane.{lane-done}

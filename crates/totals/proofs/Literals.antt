@@ -33,8 +33,14 @@ pub eighth-byte : (laneAnswer 1 z1 p0 1 0 0 true 7 ≡ record { number = 0; valu
 unfolding laneRefused
 eighth-byte = (refl, refl)
 
--- P15 is a register and P16 is none; a vector of sixteen bytes has no lane 16, and no lane 2 of eight bytes
-pub lanes-there : (laneAnswer 1 z1 p0 1 15 3 false 1 .number ≡ 0) × (laneAnswer 1 z1 p0 1 16 3 false 1 ≡ noLane 13)
+-- the last of each: Z31, P15, sixty-four bits, lane 15 of bytes and lane 1 of double words
+pub lanes-there : (laneAnswer 1 z1 p0 31 15 0 false 15 ≡ record { number = 0; value = 0; active = false; start = 511; bit = 15 })
+    × (laneAnswer 1 z1 p0 1 0 3 false 1 ≡ record { number = 0; value = 0x100F0E0D0C0B0A09; active = false; start = 24; bit = 8 })
+unfolding laneRefused
+lanes-there = (refl, refl)
+
+-- one past each is RANGE, with nothing told
+pub lanes-past : (laneAnswer 1 z1 p0 32 0 0 false 0 ≡ noLane 13) × (laneAnswer 1 z1 p0 1 16 0 false 0 ≡ noLane 13) × (laneAnswer 1 z1 p0 1 0 4 false 0 ≡ noLane 13)
     × (laneAnswer 1 z1 p0 1 0 0 false 16 ≡ noLane 13) × (laneAnswer 1 z1 p0 1 0 3 false 2 ≡ noLane 13)
 unfolding laneRefused
-lanes-there = (refl, refl, refl, refl)
+lanes-past = (refl, refl, refl, refl, refl)

@@ -20,7 +20,8 @@ use Rattle.registers.specs.Register.{registerAt, vectorOf, predicateOf}
 use Rattle.lanes.specs.Lane.{widthOf, active, HasBit}
 use Rattle.lanes.specs.Integer.{residue}
 use Rattle.lanes.specs.Sum.{element, ElementIn}
-use Rattle.totals.specs.Lane.{lanesAt, isLane, laneTests, laneRefused, laneAnswer}
+use Rattle.totals.specs.Calls.{lanesAt}
+use Rattle.totals.specs.Lane.{isLane, laneTests, laneRefused, laneAnswer}
 use Rattle.totals.specs.declared.Lane.{Lane}
 use Rattle.totals.proofs.Accepted.{Accepted, governs, lanes-within}
 

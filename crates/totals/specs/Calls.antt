@@ -30,9 +30,13 @@ abbrev pub panelAnswer : ℕ → List ℕ → List ℕ → ℕ → ℕ → ℕ �
 panelAnswer k z p source predicate size =
     unlessRefused (panelRefused k z p source predicate size) (panelOf (widthOf size) (predicateOf k predicate p) (vectorOf k source z)) noPanel
 
+-- how many lanes of a size a vector has
+abbrev pub lanesAt : ℕ → ℕ → ℕ
+lanesAt k size = vectorBytes k / widthOf size
+
 -- a range of lanes that the register has
 abbrev pub laneRange : ℕ → ℕ → ℕ → ℕ → Bool
-laneRange k size a b = both (leb a b) (leb b (vectorBytes k / widthOf size))
+laneRange k size a b = both (leb a b) (leb b (lanesAt k size))
 
 -- the tests of a subtotal, which are those of a panel and the range of its lanes, and its refusal: LENGTH, FILE, RANGE or DONE
 abbrev pub subtotalTests : ℕ → List ℕ → List ℕ → ℕ → ℕ → ℕ → ℕ → ℕ → List Test

@@ -1,23 +1,20 @@
 -- What the call for one lane answers, for every input: the lane's integer, whether it is active, where its bytes stand in the vector file, and
 -- its bit of the predicate register.
-use Prim.Native.Nat.{ℕ, _+_, _*_, _/_}
+use Prim.Native.Nat.{ℕ, _+_, _*_}
 use mathlib.Core.Bool.{Bool, false, not, cond}
 use mathlib.Core.List.{List, [], _∷_, _++_}
 use lib.Dec.{ltb}
 use lib.ListN.{length}
 use Rattle.parts.specs.Part.{both}
-use Rattle.machine.specs.Size.{vectors, predicates, sizes, vectorBytes}
+use Rattle.machine.specs.Size.{vectors, predicates, sizes}
 use Rattle.machine.specs.Refusal.{DONE, Test, refused, filesTests, rangeTest, unlessRefused}
 use Rattle.registers.specs.declared.Kind.the-variants.{Vector}
 use Rattle.registers.specs.Register.{registerAt, vectorOf, predicateOf}
 use Rattle.lanes.specs.Lane.{widthOf, active}
 use Rattle.lanes.specs.Integer.{residue}
 use Rattle.lanes.specs.Sum.{element}
+use Rattle.totals.specs.Calls.{lanesAt}
 use Rattle.totals.specs.declared.Lane.{Lane}
-
--- the lanes of a vector at a size
-abbrev pub lanesAt : ℕ → ℕ → ℕ
-lanesAt k size = vectorBytes k / widthOf size
 
 -- a source register, a predicate register, a size and a lane that there are
 abbrev pub isLane : ℕ → ℕ → ℕ → ℕ → ℕ → Bool

@@ -1,11 +1,12 @@
 -- `bytes_at` meets its contract: a size that is not allowed has 0 bytes, and every other those of its width.
 -- Assumes nothing.
 use borrow.Author.Needs.{needs}
-use Prim.Native.Nat.{ℕ, zero, suc, _≤_, _<_}
+use Prim.Native.Nat.{ℕ, _≤_, _<_}
 use mathlib.Core.Path.{_≡_, refl, sym, _∙_, ap}
 use mathlib.Core.Bool.{Bool, true, false, cond}
 use native.Mathlib.Omega.{arith}
 use Rattle.machine.specs.Size.{sizes}
+use Rattle.machine.proofs.Sizes.{of-four}
 use Rattle.lanes.specs.Lane.{widthOf}
 use Rattle.about.specs.Widths.{familyBytes}
 use Rattle.about.proofs.bytes_at.Statement.{statement}
@@ -13,11 +14,7 @@ use Rattle.about.proofs.bytes_at.Tie as tie
 
 -- a lane has at most eight bytes
 width-most : (size : ℕ) → size < sizes → widthOf size ≤ 8
-width-most zero h = omega arith
-width-most (suc zero) h = omega arith
-width-most (suc (suc zero)) h = omega arith
-width-most (suc (suc (suc zero))) h = omega arith
-width-most (suc (suc (suc (suc n)))) h = absurd (omega arith)
+width-most = of-four (λ n. widthOf n ≤ 8) (omega arith) (omega arith) (omega arith) (omega arith)
 
 -- what is answered by whether the size is allowed
 answered : (r t : Bool) (v x y : ℕ) → r ≡ t → r ≡ true → v ≡ x → v ≡ cond t x y

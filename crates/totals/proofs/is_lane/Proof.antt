@@ -6,7 +6,6 @@ use Prim.Native.Nat.{ℕ, _/_}
 use mathlib.Core.Path.{_≡_, ap, ap₂}
 use lib.Dec.{ltb}
 use Rattle.sums.proofs.Widths.{width-legal}
-use Rattle.totals.specs.Lane.{lanesAt}
 use Rattle.totals.proofs.is_lane.Statement.{statement}
 use Rattle.totals.proofs.is_lane.Tie as tie
 

@@ -13,7 +13,8 @@ use Rattle.registers.proofs.Places.{register-inside, file-few}
 use Rattle.lanes.specs.Lane.{widthOf, active}
 use Rattle.lanes.specs.Integer.{residue}
 use Rattle.lanes.specs.Sum.{element}
-use Rattle.totals.specs.Lane.{lanesAt, laneRefused, noLane}
+use Rattle.totals.specs.Calls.{lanesAt}
+use Rattle.totals.specs.Lane.{laneRefused, noLane}
 use Rattle.totals.proofs.Accepted.{Accepted, source-in, predicate-in, whole-segments}
 use Rattle.totals.proofs.OneLane.{lane-accepted, lane-in, bit-in, lane-told}
 use Rattle.totals.proofs.read_lane.Statement.{statement}

@@ -1,8 +1,8 @@
 -- `ln_read_row` meets its contract: the parts of what the library's call tells, each flag as 1 or 0.
 -- Assumes nothing.
 use borrow.Author.Needs.{needs}
-use Rattle.ln.proofs.ln_read_row.Statement.{statement}
-use Rattle.ln.proofs.ln_read_row.Tie as tie
+use Rattle.ln.proofs.asked.ln_read_row.Statement.{statement}
+use Rattle.ln.proofs.asked.ln_read_row.Tie as tie
 
 returns : tie.Need-returns
 returns c =

@@ -2,8 +2,8 @@
 -- Assumes nothing.
 use borrow.Author.Needs.{needs}
 use borrow.Author.Tests.{eq-eqb, ne-eqb}
-use Rattle.ln.proofs.ln_register_place.Statement.{statement}
-use Rattle.ln.proofs.ln_register_place.Tie as tie
+use Rattle.ln.proofs.asked.ln_register_place.Statement.{statement}
+use Rattle.ln.proofs.asked.ln_register_place.Tie as tie
 
 pub ln-register-place-spec : {M : Type 1} → statement M
 ln-register-place-spec =

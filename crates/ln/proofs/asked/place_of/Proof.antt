@@ -9,8 +9,8 @@ use Rattle.pane.specs.Drawn.{registerRefused}
 use Rattle.pane.proofs.Drawing.{drawable, in-file}
 use Rattle.registers.specs.Register.{fileOf, InFile}
 use Rattle.ln.specs.Outside.{placeOut}
-use Rattle.ln.proofs.place_of.Statement.{statement}
-use Rattle.ln.proofs.place_of.Tie as tie
+use Rattle.ln.proofs.asked.place_of.Statement.{statement}
+use Rattle.ln.proofs.asked.place_of.Tie as tie
 
 -- where the function started
 abbrev start : tie.After-register-refusal → tie.Start

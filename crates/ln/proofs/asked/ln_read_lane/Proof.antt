@@ -1,8 +1,8 @@
 -- `ln_read_lane` meets its contract: the parts of what the library's call tells, and the flag of a lane that is active.
 -- Assumes nothing.
 use borrow.Author.Needs.{needs}
-use Rattle.ln.proofs.ln_read_lane.Statement.{statement}
-use Rattle.ln.proofs.ln_read_lane.Tie as tie
+use Rattle.ln.proofs.asked.ln_read_lane.Statement.{statement}
+use Rattle.ln.proofs.asked.ln_read_lane.Tie as tie
 
 returns : tie.Need-returns
 returns c = simp (c .flag .ensures, c .before .before .read-lane .ensures)
