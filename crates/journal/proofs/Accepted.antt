@@ -28,7 +28,8 @@ use Rattle.entries.proofs.Versions.{greatest-vector}
 use Rattle.entries.proofs.Formed.{length-legal, journal-checked, formed-passes}
 use Rattle.entries.proofs.Written.{last-named}
 use Rattle.journal.specs.Left.{Buffers}
-use Rattle.journal.specs.Calls.{freshTests, freshened, bufferTests, emptyTests, positionTests, entryTests, startRefused, backRefused, positionRefused, entryRefused, entryAnswer}
+use Rattle.journal.specs.Calls.{freshTests, freshened, bufferTests, emptyTests, startRefused, backRefused}
+use Rattle.journal.specs.Calls.{positionTests, positionRefused, entryTests, entryRefused, entryAnswer}
 use Rattle.journal.specs.declared.Held.{Held}
 
 -- what fresh answers is the refusal of its tests, and with none it leaves a fresh journal

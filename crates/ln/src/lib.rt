@@ -1,4 +1,5 @@
-// The library in a host's hands: thin calls under one prefix, for C and Rust; those that a pane asks with stand in `asked`. A slice is a pointer and then a length; a core's facts are a byte.
+// The library in a host's hands: thin calls under one prefix, for C and Rust; those that a pane asks with stand in `asked`. A slice is a pointer and then
+// a length; a core's facts are a byte.
 use machine::refusal;
 use words::Decoded;
 ghost use mathlib.Core.Path.{_≡_};
