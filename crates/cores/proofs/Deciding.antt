@@ -42,20 +42,20 @@ module _ (f : Facts) where
 abbrev pub answersOn : List ℕ → ℕ → List ℕ
 answersOn words byte = map (λ (word : ℕ). numberOf (decodedOn (factsOf byte) word)) words
 
--- saddv, uaddv, addqv, saddlv, uaddlv, sadalp, saddlb: none of the facts; SVE; SVE2; SVE2p1; SME; SME2p1; all but SVE and SME; all but SVE2 and
+-- saddv, uaddv, addqv, saddlv, uaddlv, sadalp, saddlb, ptrue, pfalse: none of the facts; SVE; SVE2; SVE2p1; SME; SME2p1; all but SVE and SME; all but SVE2 and
 -- SME; all but SVE2p1 and SME2p1; all
-pub deciding-facts : map (answersOn (0x04002020 ∷ 0x04012020 ∷ 0x04052020 ∷ 0x0E303822 ∷ 0x2E303822 ∷ 0x4444A020 ∷ 0x45410023 ∷ []))
+pub deciding-facts : map (answersOn (0x04002020 ∷ 0x04012020 ∷ 0x04052020 ∷ 0x0E303822 ∷ 0x2E303822 ∷ 0x4444A020 ∷ 0x45410023 ∷ 0x2518E3E0 ∷ 0x2518E400 ∷ []))
     (0 ∷ 1 ∷ 2 ∷ 4 ∷ 8 ∷ 16 ∷ 22 ∷ 21 ∷ 11 ∷ 31 ∷ [])
-    ≡ (8 ∷ 8 ∷ 8 ∷ 0 ∷ 0 ∷ 8 ∷ 8 ∷ [])
-    ∷ (0 ∷ 0 ∷ 8 ∷ 0 ∷ 0 ∷ 8 ∷ 8 ∷ [])
-    ∷ (8 ∷ 8 ∷ 8 ∷ 0 ∷ 0 ∷ 0 ∷ 0 ∷ [])
-    ∷ (8 ∷ 8 ∷ 0 ∷ 0 ∷ 0 ∷ 8 ∷ 8 ∷ [])
-    ∷ (0 ∷ 0 ∷ 8 ∷ 0 ∷ 0 ∷ 0 ∷ 0 ∷ [])
-    ∷ (8 ∷ 8 ∷ 0 ∷ 0 ∷ 0 ∷ 8 ∷ 8 ∷ [])
-    ∷ (8 ∷ 8 ∷ 0 ∷ 0 ∷ 0 ∷ 0 ∷ 0 ∷ [])
-    ∷ (0 ∷ 0 ∷ 0 ∷ 0 ∷ 0 ∷ 8 ∷ 8 ∷ [])
-    ∷ (0 ∷ 0 ∷ 8 ∷ 0 ∷ 0 ∷ 0 ∷ 0 ∷ [])
-    ∷ (0 ∷ 0 ∷ 0 ∷ 0 ∷ 0 ∷ 0 ∷ 0 ∷ [])
+    ≡ (8 ∷ 8 ∷ 8 ∷ 0 ∷ 0 ∷ 8 ∷ 8 ∷ 8 ∷ 8 ∷ [])
+    ∷ (0 ∷ 0 ∷ 8 ∷ 0 ∷ 0 ∷ 8 ∷ 8 ∷ 0 ∷ 0 ∷ [])
+    ∷ (8 ∷ 8 ∷ 8 ∷ 0 ∷ 0 ∷ 0 ∷ 0 ∷ 8 ∷ 8 ∷ [])
+    ∷ (8 ∷ 8 ∷ 0 ∷ 0 ∷ 0 ∷ 8 ∷ 8 ∷ 8 ∷ 8 ∷ [])
+    ∷ (0 ∷ 0 ∷ 8 ∷ 0 ∷ 0 ∷ 0 ∷ 0 ∷ 0 ∷ 0 ∷ [])
+    ∷ (8 ∷ 8 ∷ 0 ∷ 0 ∷ 0 ∷ 8 ∷ 8 ∷ 8 ∷ 8 ∷ [])
+    ∷ (8 ∷ 8 ∷ 0 ∷ 0 ∷ 0 ∷ 0 ∷ 0 ∷ 8 ∷ 8 ∷ [])
+    ∷ (0 ∷ 0 ∷ 0 ∷ 0 ∷ 0 ∷ 8 ∷ 8 ∷ 0 ∷ 0 ∷ [])
+    ∷ (0 ∷ 0 ∷ 8 ∷ 0 ∷ 0 ∷ 0 ∷ 0 ∷ 0 ∷ 0 ∷ [])
+    ∷ (0 ∷ 0 ∷ 0 ∷ 0 ∷ 0 ∷ 0 ∷ 0 ∷ 0 ∷ 0 ∷ [])
     ∷ []
 unfolding factsOf decodedOn decoded rowAt rowOf placeFrom matches digitsAnd needOf
 deciding-facts = refl

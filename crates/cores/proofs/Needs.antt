@@ -4,7 +4,8 @@ use Prim.Native.Nat.{ℕ, zero, suc, _≤_, _<_}
 use native.Mathlib.Omega.{arith}
 use mathlib.Core.Path.{_≡_, refl}
 use mathlib.Core.Bool.{Bool, true, false}
-use mathlib.Core.List.{_∷_, map}
+use mathlib.Core.Logic.{_⊎_, inl, inr}
+use mathlib.Core.List.{[], _∷_, _++_, map}
 use lib.Dec.{ltb}
 use lib.ListN.{replicate}
 use borrow.Author.Tests.{le-ltb}
@@ -17,12 +18,12 @@ use Rattle.cores.specs.declared.Need.{Need}
 use Rattle.cores.specs.declared.Need.the-variants.{Nothing, SveOrSme, Sve2OrSme, Sve2p1OrSme2p1}
 use Rattle.cores.specs.Need.{either, has, needFor, needOf}
 
--- saddv and uaddv need SVE or SME, addqv SVE2p1 or SME2p1, saddlv and uaddlv nothing, the other eighteen SVE2 or SME
+-- saddv and uaddv need SVE or SME, addqv SVE2p1 or SME2p1, saddlv and uaddlv nothing, the eighteen after them SVE2 or SME, ptrue and pfalse SVE or SME
 pub row-needs : map (λ (line : Row). needFor (lineForm line .family)) table
-    ≡ SveOrSme ∷ SveOrSme ∷ Sve2p1OrSme2p1 ∷ Nothing ∷ Nothing ∷ replicate 18 Sve2OrSme
+    ≡ (SveOrSme ∷ SveOrSme ∷ Sve2p1OrSme2p1 ∷ Nothing ∷ Nothing ∷ []) ++ replicate 18 Sve2OrSme ++ replicate 2 SveOrSme
 row-needs = refl
 
--- by the row's place: the first two, the next, the two after it, and all that follow
+-- by the row's place: the first two, the next, the two after it, those up to the last two, and these
 pub need-first : (i : ℕ) → i < 2 → needOf i ≡ SveOrSme
 unfolding needOf rowAt
 need-first zero h = refl
@@ -49,19 +50,24 @@ isLater SveOrSme = false
 isLater Sve2OrSme = true
 isLater Sve2p1OrSme2p1 = false
 
-later-needs : every rows (λ i. either (ltb i 5) (isLater (needOf i))) ≡ true
+later-needs : every 23 (λ i. either (ltb i 5) (isLater (needOf i))) ≡ true
 unfolding isLater needOf rowAt
 later-needs = refl
 
-pub need-later : (i : ℕ) → 5 ≤ i → i < rows → needOf i ≡ Sve2OrSme
+pub need-later : (i : ℕ) → 5 ≤ i → i < 23 → needOf i ≡ Sve2OrSme
 unfolding isLater
-need-later i past h = go (needOf i) (rw (le-ltb i 5 past) at (at-each rows (λ j. either (ltb j 5) (isLater (needOf j))) later-needs i h))
+need-later i past h = go (needOf i) (rw (le-ltb i 5 past) at (at-each 23 (λ j. either (ltb j 5) (isLater (needOf j))) later-needs i h))
   where
     go : (need : Need) → isLater need ≡ true → need ≡ Sve2OrSme
     go Nothing e = cc
     go SveOrSme e = cc
     go Sve2OrSme e = refl
     go Sve2p1OrSme2p1 e = cc
+
+pub need-last : (i : ℕ) → (i ≡ 23) ⊎ (i ≡ 24) → needOf i ≡ SveOrSme
+unfolding needOf rowAt
+need-last i (inl e) = rw e refl
+need-last i (inr e) = rw e refl
 
 -- a core with every fact has every need
 pub has-all : (need : Need) → has allFacts need ≡ true

@@ -4,7 +4,7 @@ use mathlib.Core.Bool.{Bool, true, false}
 use Rattle.facts.specs.declared.Facts.{Facts}
 use Rattle.rows.specs.Table.{familyOf}
 use Rattle.rows.specs.declared.Family.{Family}
-use Rattle.rows.specs.declared.Family.the-variants.{Low, Wide}
+use Rattle.rows.specs.declared.Family.the-variants.{Low, Wide, Made}
 use Rattle.rows.specs.declared.LowFamily.the-variants.{Reduction, Segment, Long}
 use Rattle.cores.specs.declared.Need.{Need}
 use Rattle.cores.specs.declared.Need.the-variants.{Nothing, SveOrSme, Sve2OrSme, Sve2p1OrSme2p1}
@@ -27,6 +27,7 @@ needFor (Low Reduction) = SveOrSme
 needFor (Low Segment) = Sve2p1OrSme2p1
 needFor (Low Long) = Nothing
 needFor (Wide wide) = Sve2OrSme
+needFor (Made made) = SveOrSme
 
 -- what the row at a place needs
 unfoldable pub needOf : ℕ → Need

@@ -8,7 +8,7 @@ ghost use Rattle.rows.specs.Table.{rows};
 ghost use Rattle.cores.specs.Need.{has, needOf};
 ghost use Rattle.cores.specs.Core.{granted, decodedOn};
 
-// The places of the rows that need something else than those past them.
+// The places of the rows that need something else than the widening and pairwise ones.
 const SADDV: usize = 0;
 
 const UADDV: usize = 1;
@@ -18,6 +18,10 @@ const ADDQV: usize = 2;
 const SADDLV: usize = 3;
 
 const UADDLV: usize = 4;
+
+const PTRUE: usize = 23;
+
+const PFALSE: usize = 24;
 
 // What a row needs of a core.
 pub enum Need {
@@ -45,7 +49,7 @@ pub fn need_of(row: usize) -> Need
     ensures { λ r. ⌜ r ≡ needOf row ⌝ }
 {
     match row {
-        SADDV | UADDV => Need::SveOrSme,
+        SADDV | UADDV | PTRUE | PFALSE => Need::SveOrSme,
         ADDQV => Need::Sve2p1OrSme2p1,
         SADDLV | UADDLV => Need::Nothing,
         _ => Need::Sve2OrSme,

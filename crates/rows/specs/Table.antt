@@ -10,11 +10,12 @@ use Rattle.rows.specs.Digits.{digitsAnd, wordDigits}
 use Rattle.rows.specs.declared.Row.{Row}
 use Rattle.rows.specs.declared.Form.{Form}
 use Rattle.rows.specs.declared.Operation.{Operation}
-use Rattle.rows.specs.declared.Operation.the-variants.{Reduce, Segments, Across, Pairs, AddLong, SubLong, AddWide, SubWide}
+use Rattle.rows.specs.declared.Operation.the-variants.{Reduce, Segments, Across, Pairs, AddLong, SubLong, AddWide, SubWide, Pattern, Clear}
 use Rattle.rows.specs.declared.Family.{Family}
-use Rattle.rows.specs.declared.Family.the-variants.{Low, Wide}
+use Rattle.rows.specs.declared.Family.the-variants.{Low, Wide, Made}
 use Rattle.rows.specs.declared.LowFamily.the-variants.{Reduction, Segment, Long}
 use Rattle.rows.specs.declared.WideFamily.the-variants.{Pairwise, Widening}
+use Rattle.rows.specs.declared.MadeFamily.the-variants.{Patterned, Cleared}
 
 -- a name as the table has it: six bytes, with a space where it has five letters
 abbrev pub nameBytes : ℕ
@@ -71,11 +72,13 @@ table =
     ∷ row "ssubwt" 0xFF20FC00 0x45005400 SubWide true true
     ∷ row "usubwb" 0xFF20FC00 0x45005800 SubWide false false
     ∷ row "usubwt" 0xFF20FC00 0x45005C00 SubWide false true
+    ∷ row "ptrue" 0xFF3FFC10 0x2518E000 Pattern false false
+    ∷ row "pfalse" 0xFFFFFFF0 0x2518E400 Clear false false
     ∷ []
 
 -- the number of rows, which is also the place past the last
 abbrev pub rows : ℕ
-rows = 23
+rows = 25
 
 -- what stands past the last row
 abbrev pub noRow : Row
@@ -106,6 +109,8 @@ formFor AddLong = formWith (Wide Widening) false false
 formFor SubLong = formWith (Wide Widening) false true
 formFor AddWide = formWith (Wide Widening) true false
 formFor SubWide = formWith (Wide Widening) true true
+formFor Pattern = formWith (Made Patterned) false false
+formFor Clear = formWith (Made Cleared) false false
 
 -- the form of a line; of the row at a place, and its family
 abbrev pub lineForm : Row → Form

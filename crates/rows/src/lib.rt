@@ -2,10 +2,11 @@
 ghost use mathlib.Core.Path.{_≡_};
 ghost use Rattle.rows.specs.Table.{table, rowAt, matches, rowOf, formWith, formFor, formOf, familyOf};
 
-// What a family writes: the low bytes of V with zeros above, or every lane of Z.
+// What a family writes: the low bytes of V with zeros above, every lane of Z, or a predicate.
 pub enum Family {
     Low(LowFamily),
     Wide(WideFamily),
+    Made(MadeFamily),
 }
 
 // The families that write the low bytes.
@@ -19,6 +20,12 @@ pub enum LowFamily {
 pub enum WideFamily {
     Pairwise,
     Widening,
+}
+
+// The families that make a predicate: of the lanes that a pattern names, or of none.
+pub enum MadeFamily {
+    Patterned,
+    Cleared,
 }
 
 // A row's parameters: whether its elements are signed, whether it takes the top half elements, whether its first source's have the full
@@ -46,6 +53,8 @@ pub enum Operation {
     SubLong,
     AddWide,
     SubWide,
+    Pattern,
+    Clear,
 }
 
 // A row: name, with a space where it has five letters; mask and value, a word being of it where word AND mask = value; operation; whether
@@ -63,7 +72,7 @@ pub struct Row(
 pub const NAME: usize = 6;
 
 // The number of rows.
-pub const ROWS: usize = 23;
+pub const ROWS: usize = 25;
 
 const REDUCE: Operation = Operation::Reduce;
 
@@ -81,6 +90,10 @@ const ADD_WIDE: Operation = Operation::AddWide;
 
 const SUB_WIDE: Operation = Operation::SubWide;
 
+const PATTERN: Operation = Operation::Pattern;
+
+const CLEAR: Operation = Operation::Clear;
+
 // The families, each by a name of its own.
 const REDUCTION: Family = Family::Low(LowFamily::Reduction);
 
@@ -91,6 +104,10 @@ const LONG: Family = Family::Low(LowFamily::Long);
 const PAIRWISE: Family = Family::Wide(WideFamily::Pairwise);
 
 const WIDENING: Family = Family::Wide(WideFamily::Widening);
+
+const PATTERNED: Family = Family::Made(MadeFamily::Patterned);
+
+const CLEARED: Family = Family::Made(MadeFamily::Cleared);
 
 // A row's flags by name: its elements' sign, and whether the even or the odd ones are taken.
 const SIGNED: bool = true;
@@ -126,6 +143,8 @@ const TABLE: [Row; ROWS] = [
     Row(*b"ssubwt", 0xFF20FC00, 0x45005400, SUB_WIDE, SIGNED, ODD),
     Row(*b"usubwb", 0xFF20FC00, 0x45005800, SUB_WIDE, UNSIGNED, EVEN),
     Row(*b"usubwt", 0xFF20FC00, 0x45005C00, SUB_WIDE, UNSIGNED, ODD),
+    Row(*b"ptrue ", 0xFF3FFC10, 0x2518E000, PATTERN, UNSIGNED, EVEN),
+    Row(*b"pfalse", 0xFFFFFFF0, 0x2518E400, CLEAR, UNSIGNED, EVEN),
 ];
 
 // What stands past the last row.
@@ -180,6 +199,8 @@ fn form_for(operation: Operation, signed: bool, top: bool) -> Form
         Operation::SubLong => form_with(WIDENING, false, true, signed, top),
         Operation::AddWide => form_with(WIDENING, true, false, signed, top),
         Operation::SubWide => form_with(WIDENING, true, true, signed, top),
+        Operation::Pattern => form_with(PATTERNED, false, false, signed, top),
+        Operation::Clear => form_with(CLEARED, false, false, signed, top),
     }
 }
 

@@ -13,8 +13,8 @@ use Rattle.parts.specs.Part.{both}
 use Rattle.parts.proofs.Same.{both-left, both-right}
 use Rattle.rows.specs.Digits.{digitsAnd, wordDigits}
 use Rattle.rows.specs.Table.{rows, rowAt, rowMask, rowValue, rowOf, familyOf, matches}
-use Rattle.words.specs.Field.{sizePlace, sourcePlace, destinationPlace, governingPlace, secondPlace, qPlace}
-use Rattle.words.specs.Field.{sizeDigits, registerDigits, governingDigits, secondDigits, qDigits}
+use Rattle.words.specs.Field.{sizePlace, sourcePlace, destinationPlace, governingPlace, secondPlace, qPlace, patternPlace}
+use Rattle.words.specs.Field.{sizeDigitsIn, sourceDigits, destinationDigits, governingDigits, secondDigits, qDigits, patternDigits}
 use Rattle.words.specs.Decode.{decoded, judged, fieldsAt}
 use Rattle.words.specs.Encode.{encoded, InRange}
 use Rattle.rows.specs.declared.Family.{Family}
@@ -31,16 +31,17 @@ use Rattle.words.proofs.Parts.{Place, fieldMask, placed, under-fields, 
 -- the places of a family's fields, and the numbers that stand there
 abbrev pub placesOf : Family → List Place
 placesOf family =
-    (sizePlace, sizeDigits)
-    ∷ (sourcePlace, registerDigits)
-    ∷ (destinationPlace, registerDigits)
+    (sizePlace, sizeDigitsIn family)
+    ∷ (sourcePlace, sourceDigits family)
+    ∷ (destinationPlace, destinationDigits family)
     ∷ (governingPlace, governingDigits family)
     ∷ (secondPlace, secondDigits family)
     ∷ (qPlace, qDigits family)
+    ∷ (patternPlace, patternDigits family)
     ∷ []
 
 abbrev pub numbersOf : Fields → List ℕ
-numbersOf f = f .size ∷ f .n ∷ f .d ∷ f .g ∷ f .m ∷ f .q ∷ []
+numbersOf f = f .size ∷ f .n ∷ f .d ∷ f .g ∷ f .m ∷ f .q ∷ f .pattern ∷ []
 
 -- a row's mask and those of its fields, and the numbers that make up a word
 abbrev pub masksOf : ℕ → List ℕ
@@ -113,12 +114,13 @@ decoded-in-range word f e =
     rw (a .fields)
     (record {
       row = a .known;
-      size = field-below sizePlace sizeDigits word;
-      n = field-below sourcePlace registerDigits word;
-      d = field-below destinationPlace registerDigits word;
+      size = field-below sizePlace (sizeDigitsIn family) word;
+      n = field-below sourcePlace (sourceDigits family) word;
+      d = field-below destinationPlace (destinationDigits family) word;
       g = field-below governingPlace (governingDigits family) word;
       m = field-below secondPlace (secondDigits family) word;
       q = field-below qPlace (qDigits family) word;
+      pattern = field-below patternPlace (patternDigits family) word;
       allowed = rw (a .fields) at (a .allowed);
     })
 
@@ -132,16 +134,23 @@ numbers-tell f g row e = λ t. record {
   g = ap (λ (l : List ℕ). getD l 3 0) e t;
   m = ap (λ (l : List ℕ). getD l 4 0) e t;
   q = ap (λ (l : List ℕ). getD l 5 0) e t;
+  pattern = ap (λ (l : List ℕ). getD l 6 0) e t;
 }
 
 -- fields in range: the word that they make decodes to them
 module _ (f : Fields) (r : InRange f) where
+  -- the numbers of the second source, of Q and of the pattern, and then all, fit their places
+  last-fit : Fits wordDigits (drop 4 (placesOf (familyOf (f .row)))) (drop 4 (numbersOf f))
+  last-fit =
+      let most = digits-most (familyOf (f .row)) in
+      (omega (arith, most .second), r .m, (omega (arith, most .q), r .q, (omega (arith, most .pattern), r .pattern, tt)))
+
   numbers-fit : Fits wordDigits (placesOf (familyOf (f .row))) (numbersOf f)
   numbers-fit =
       let most = digits-most (familyOf (f .row)) in (
-        omega arith,
+        omega (arith, most .size),
         r .size,
-        (omega arith, r .n, (omega arith, r .d, (omega arith, r .g, (omega arith, r .m, (omega arith, r .q, tt))))),
+        (omega (arith, most .source), r .n, (omega (arith, most .destination), r .d, (omega (arith, most .governing), r .g, last-fit))),
       )
 
   -- fields in range and the row's value lie within the masks of their row

@@ -8,8 +8,8 @@ use Rattle.machine.specs.Refusal.{DONE, UNKNOWN, UNDEFINED, Test, test}
 use Rattle.rows.specs.Digits.{field}
 use Rattle.rows.specs.Table.{rows, rowAt, rowOf, formOf, familyOf, matches}
 use Rattle.words.specs.Sizes.{allows}
-use Rattle.words.specs.Field.{sizePlace, sourcePlace, destinationPlace, governingPlace, secondPlace, qPlace}
-use Rattle.words.specs.Field.{sizeDigits, registerDigits, governingDigits, secondDigits, qDigits}
+use Rattle.words.specs.Field.{sizePlace, sourcePlace, destinationPlace, governingPlace, secondPlace, qPlace, patternPlace}
+use Rattle.words.specs.Field.{sizeDigitsIn, sourceDigits, destinationDigits, governingDigits, secondDigits, qDigits, patternDigits}
 use Rattle.words.specs.declared.Fields.{Fields}
 use Rattle.words.specs.declared.Decoded.{Decoded}
 use Rattle.words.specs.declared.Decoded.the-variants.{Unknown, Undefined, Word}
@@ -19,12 +19,13 @@ abbrev pub fieldsAt : ℕ → ℕ → Fields
 fieldsAt i word =
     record {
       row = i;
-      size = field sizePlace sizeDigits word;
-      n = field sourcePlace registerDigits word;
-      d = field destinationPlace registerDigits word;
+      size = field sizePlace (sizeDigitsIn (familyOf i)) word;
+      n = field sourcePlace (sourceDigits (familyOf i)) word;
+      d = field destinationPlace (destinationDigits (familyOf i)) word;
       g = field governingPlace (governingDigits (familyOf i)) word;
       m = field secondPlace (secondDigits (familyOf i)) word;
       q = field qPlace (qDigits (familyOf i)) word;
+      pattern = field patternPlace (patternDigits (familyOf i)) word;
     }
 
 abbrev pub pickDecoded : Bool → Decoded → Decoded → Decoded
@@ -51,7 +52,7 @@ wordTests w = test UNKNOWN (eqb (numberOf w) UNKNOWN) ∷ test UNDEFINED (eqb (n
 
 -- the fields of what a word decodes to, which are zeros where it is refused
 abbrev pub noFields : Fields
-noFields = record { row = 0; size = 0; n = 0; d = 0; g = 0; m = 0; q = 0 }
+noFields = record { row = 0; size = 0; n = 0; d = 0; g = 0; m = 0; q = 0; pattern = 0 }
 
 abbrev pub fieldsOf : Decoded → Fields
 fieldsOf Unknown = noFields

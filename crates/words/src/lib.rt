@@ -3,14 +3,15 @@ use machine::refusal;
 use rows::Family;
 use rows::Form;
 use rows::LowFamily;
+use rows::MadeFamily;
 use rows::ROWS;
 use rows::WideFamily;
 ghost use mathlib.Core.Path.{_≡_};
 ghost use Prim.Native.Nat.{_<_, _^_};
 ghost use Rattle.rows.specs.Digits.{field, wordDigits};
 ghost use Rattle.rows.specs.Table.{familyOf};
-ghost use Rattle.words.specs.Sizes.{within, mostReduced, allowsLong, allowsLow, allows};
-ghost use Rattle.words.specs.Field.{sizeDigits, governingDigits, secondDigits, qDigits, Counted};
+ghost use Rattle.words.specs.Sizes.{within, mostReduced, allowsLong, allowsLow, allowsMade, allows};
+ghost use Rattle.words.specs.Field.{sizeDigits, sizeDigitsIn, sourceDigits, destinationDigits, governingDigits, secondDigits, qDigits, patternDigits, Counted};
 ghost use Rattle.words.specs.Decode.{decoded, numberOf, fieldsAt};
 
 pub mod place;
@@ -24,6 +25,7 @@ pub struct Fields {
     pub g: usize,
     pub m: usize,
     pub q: usize,
+    pub pattern: usize,
 }
 
 // What a word is: no row's, of a row that does not allow its size, or accepted with its fields.
@@ -33,12 +35,16 @@ pub enum Decoded {
     Word(Fields),
 }
 
-// How many digits the size has, a register's number, and a governing predicate's.
+// How many digits a size has, a vector register's number, a predicate register's, a governing predicate's, and a pattern.
 pub const SIZE_DIGITS: u32 = 2;
 
 pub const REGISTER_DIGITS: u32 = 5;
 
+pub const MADE_DIGITS: u32 = 4;
+
 pub const PREDICATE_DIGITS: u32 = 3;
+
+pub const NAMING_DIGITS: u32 = 5;
 
 // Whether a size lies from the least to the most.
 fn is_within(least: usize, most: usize, size: usize) -> bool
@@ -80,6 +86,16 @@ fn allows_low(low: LowFamily, signed: bool, q: usize, size: usize) -> bool
     }
 }
 
+// Whether a family that makes a predicate allows a size.
+fn allows_made(made: MadeFamily, size: usize) -> bool
+    ensures { λ r. ⌜ r ≡ allowsMade made size ⌝ }
+{
+    match made {
+        MadeFamily::Patterned => is_within(0, 3, size),
+        MadeFamily::Cleared => is_within(0, 0, size),
+    }
+}
+
 // Whether a form allows a size.
 pub fn allows_size(form: Form, q: usize, size: usize) -> bool
     requires { ⌜ (size < 2 ^ sizeDigits) × (q < 2) ⌝ }
@@ -89,6 +105,43 @@ pub fn allows_size(form: Form, q: usize, size: usize) -> bool
     match family {
         Family::Low(low) => allows_low(low, form.parameters.signed, q, size),
         Family::Wide(_) => is_within(1, 3, size),
+        Family::Made(made) => allows_made(made, size),
+    }
+}
+
+// How many digits the size has in a family's words.
+pub fn size_digits(family: Family) -> u32
+    ensures { λ r. ⌜ Counted (sizeDigitsIn family) r ⌝ }
+{
+    match family {
+        Family::Low(_) => SIZE_DIGITS,
+        Family::Wide(_) => SIZE_DIGITS,
+        Family::Made(made) => match made {
+            MadeFamily::Patterned => SIZE_DIGITS,
+            MadeFamily::Cleared => 0,
+        },
+    }
+}
+
+// How many digits the source has in a family's words.
+pub fn source_digits(family: Family) -> u32
+    ensures { λ r. ⌜ Counted (sourceDigits family) r ⌝ }
+{
+    match family {
+        Family::Low(_) => REGISTER_DIGITS,
+        Family::Wide(_) => REGISTER_DIGITS,
+        Family::Made(_) => 0,
+    }
+}
+
+// How many digits the destination has in a family's words.
+pub fn destination_digits(family: Family) -> u32
+    ensures { λ r. ⌜ Counted (destinationDigits family) r ⌝ }
+{
+    match family {
+        Family::Low(_) => REGISTER_DIGITS,
+        Family::Wide(_) => REGISTER_DIGITS,
+        Family::Made(_) => MADE_DIGITS,
     }
 }
 
@@ -106,6 +159,7 @@ pub fn governing_digits(family: Family) -> u32
             WideFamily::Pairwise => PREDICATE_DIGITS,
             WideFamily::Widening => 0,
         },
+        Family::Made(_) => 0,
     }
 }
 
@@ -119,6 +173,7 @@ pub fn second_digits(family: Family) -> u32
             WideFamily::Pairwise => 0,
             WideFamily::Widening => REGISTER_DIGITS,
         },
+        Family::Made(_) => 0,
     }
 }
 
@@ -133,6 +188,21 @@ pub fn q_digits(family: Family) -> u32
             LowFamily::Long => 1,
         },
         Family::Wide(_) => 0,
+        Family::Made(_) => 0,
+    }
+}
+
+// How many digits the pattern has in a family's words.
+pub fn pattern_digits(family: Family) -> u32
+    ensures { λ r. ⌜ Counted (patternDigits family) r ⌝ }
+{
+    match family {
+        Family::Low(_) => 0,
+        Family::Wide(_) => 0,
+        Family::Made(made) => match made {
+            MadeFamily::Patterned => NAMING_DIGITS,
+            MadeFamily::Cleared => 0,
+        },
     }
 }
 
@@ -151,12 +221,13 @@ fn fields_at(i: usize, family: Family, word: u32) -> Fields
 {
     Fields {
         row: i,
-        size: field_of(word, place::SIZE, SIZE_DIGITS),
-        n: field_of(word, place::SOURCE, REGISTER_DIGITS),
-        d: field_of(word, place::DESTINATION, REGISTER_DIGITS),
+        size: field_of(word, place::SIZE, size_digits(family)),
+        n: field_of(word, place::SOURCE, source_digits(family)),
+        d: field_of(word, place::DESTINATION, destination_digits(family)),
         g: field_of(word, place::GOVERNING, governing_digits(family)),
         m: field_of(word, place::SECOND, second_digits(family)),
         q: field_of(word, place::Q, q_digits(family)),
+        pattern: field_of(word, place::PATTERN, pattern_digits(family)),
     }
 }
 

@@ -11,3 +11,5 @@ pub const GOVERNING: u32 = 10;
 pub const SECOND: u32 = 16;
 
 pub const Q: u32 = 30;
+
+pub const PATTERN: u32 = 5;

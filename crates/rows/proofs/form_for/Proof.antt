@@ -12,14 +12,15 @@ use Rattle.rows.proofs.form_for.Tie as tie
 abbrev formAt : tie.Start → Operation → Form
 formAt s operation = formFor operation (s .args .signed) (s .args .top)
 
--- each of the eight arms tells its operation and asks nothing of its call
+-- each of the ten arms tells its operation and asks nothing of its call
 pub form-for-spec : {M : Type 1} → statement M
 form-for-spec =
     let three = tie.spec (λ c. search needs) (λ c κs. search needs) (λ c. search needs) (λ c κs. search needs) (λ c. search needs) (λ c κs. search needs) in
     let six = three (λ c. search needs) (λ c κs. search needs) (λ c. search needs) (λ c κs. search needs) (λ c. search needs) (λ c κs. search needs) in
-    let eight = six (λ c. search needs) (λ c κs. search needs) (λ c. search needs) (λ c κs. search needs) in
+    let nine = six (λ c. search needs) (λ c κs. search needs) (λ c. search needs) (λ c κs. search needs) (λ c. search needs) (λ c κs. search needs) in
+    let ten = nine (λ c. search needs) (λ c κs. search needs) in
     tie.close
-    (eight
+    (ten
     (λ c. of-arm (formAt (c .before .before .before)) _ _ _ (c .before .enum-told .given .1) (c .form-with .ensures))
     (λ c. of-arm (formAt (c .before .before .before)) _ _ _ (c .before .enum-told2 .given .1) (c .form-with2 .ensures))
     (λ c. of-arm (formAt (c .before .before .before)) _ _ _ (c .before .enum-told3 .given .1) (c .form-with3 .ensures))
@@ -27,4 +28,6 @@ form-for-spec =
     (λ c. of-arm (formAt (c .before .before .before)) _ _ _ (c .before .enum-told5 .given .1) (c .form-with5 .ensures))
     (λ c. of-arm (formAt (c .before .before .before)) _ _ _ (c .before .enum-told6 .given .1) (c .form-with6 .ensures))
     (λ c. of-arm (formAt (c .before .before .before)) _ _ _ (c .before .enum-told7 .given .1) (c .form-with7 .ensures))
-    (λ c. of-arm (formAt (c .before .before .before)) _ _ _ (c .before .enum-told8 .given .1) (c .form-with8 .ensures)))
+    (λ c. of-arm (formAt (c .before .before .before)) _ _ _ (c .before .enum-told8 .given .1) (c .form-with8 .ensures))
+    (λ c. of-arm (formAt (c .before .before .before)) _ _ _ (c .before .enum-told9 .given .1) (c .form-with9 .ensures))
+    (λ c. of-arm (formAt (c .before .before .before)) _ _ _ (c .before .enum-told10 .given .1) (c .form-with10 .ensures)))

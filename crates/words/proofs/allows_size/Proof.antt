@@ -18,7 +18,10 @@ returns c = of-arm (sizesAt (c .before .before .before .before)) _ _ _ (c .befor
 returns-2 : tie.Need-returns-2
 returns-2 c = of-arm (sizesAt (c .before .before .before)) _ _ _ (c .before .enum-told .given .1) (c .is-within .ensures)
 
+returns-3 : tie.Need-returns-3
+returns-3 c = of-arm (sizesAt (c .before .before .before .before)) _ _ _ (c .before .before .family2 .given .1) (c .allows-made .ensures)
+
 pub allows-size-spec : {M : Type 1} → statement M
 allows-size-spec =
     tie.close
-    (tie.spec (λ c. search needs) (λ c κs. search needs) (λ c. search needs) (λ c κs. search needs) returns returns-2)
+    (tie.spec (λ c. search needs) (λ c κs. search needs) (λ c. search needs) (λ c κs. search needs) (λ c. search needs) (λ c κs. search needs) returns returns-2 returns-3)

@@ -6,11 +6,11 @@ use Prim.Native.Nat.{ℕ, _^_, _<_}
 use Rattle.words.specs.Decode.{decoded, judged, fieldsAt}
 use Rattle.rows.specs.Table.{formOf, familyOf}
 use Rattle.words.specs.Sizes.{allows}
-use Rattle.words.specs.Field.{sizePlace, qPlace, sizeDigits, qDigits}
+use Rattle.words.specs.Field.{sizePlace, qPlace, sizeDigits, sizeDigitsIn, qDigits}
 use Rattle.rows.specs.declared.Form.{Form}
 use Rattle.words.specs.declared.Fields.{Fields}
 use Rattle.rows.proofs.Digits.{field-below}
-use Rattle.words.proofs.Decoding.{decoded-unknown, decoded-judged, q-below}
+use Rattle.words.proofs.Decoding.{decoded-unknown, decoded-judged, digits-most, below-most, q-below}
 use Rattle.words.proofs.decode.Statement.{statement}
 use Rattle.words.proofs.decode.Tie as tie
 
@@ -33,7 +33,12 @@ fields-at-requires c κs = family-told _ _ (c .form-of .ensures)
 
 -- the size is of its digits, and so is Q
 in-digits : (f : Fields) (i word : ℕ) → f ≡ fieldsAt i word → (f .size < 2 ^ sizeDigits) × (f .q < 2)
-in-digits f i word e = rw e (field-below sizePlace sizeDigits word, q-below (familyOf i) (field-below qPlace (qDigits (familyOf i)) word))
+in-digits f i word e =
+    let family = familyOf i in
+    rw e (
+      below-most (digits-most family .size) (field-below sizePlace (sizeDigitsIn family) word),
+      q-below family (field-below qPlace (qDigits family) word),
+    )
 
 allows-size-requires : tie.Need-allows-size-requires
 allows-size-requires c κs = in-digits _ _ _ (c .fields-at .ensures)
