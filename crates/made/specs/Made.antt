@@ -1,11 +1,9 @@
 -- The predicate that a word makes: of each lane below a count the one bit that governs it, and no other bit. Bit x is bit x mod 8 of byte x / 8.
-use Prim.Native.Nat.{ℕ, zero, suc, _+_, _*_, _/_, _≤_, _<_}
+use Prim.Native.Nat.{ℕ, zero, suc, _+_, _*_, _/_}
 use mathlib.Core.Bool.{Bool, cond}
 use mathlib.Core.List.{List}
 use lib.Dec.{eqb, ltb}
-use lib.ListN.{length}
 use Rattle.parts.specs.Part.{both}
-use Rattle.machine.specs.Size.{sizes, mostLength, predicateBytes}
 use Rattle.lanes.specs.Lane.{widthOf}
 use Rattle.lanes.specs.Sum.{each}
 
@@ -23,19 +21,9 @@ bitsFrom isSet x zero = 0
 bitsFrom isSet x (suc n) = bitOf (isSet x) + 2 * bitsFrom isSet (suc x) n
 
 -- byte j of the predicate: its bits 8·j to 8·j + 7
-abbrev pub madeByte : ℕ → ℕ → ℕ → ℕ
+unfoldable pub madeByte : ℕ → ℕ → ℕ → ℕ
 madeByte size count j = bitsFrom (isMade size count) (8 * j) 8
 
 -- the predicate's n bytes, for a size of lanes and the count of those that it makes active
 unfoldable pub madeBytes : ℕ → ℕ → ℕ → List ℕ
 madeBytes n size count = each (madeByte size count) 0 n
-
--- a byte of a predicate register, for one of the sizes of lanes
-pub record ByteOf (size j : ℕ) : Type 0 where
-  pub sized : size < sizes
-  pub short : j < predicateBytes mostLength
-
--- a register that is no longer than the longest predicate, for one of the sizes of lanes
-pub record RegisterOf (size : ℕ) (register : List ℕ) : Type 0 where
-  pub sized : size < sizes
-  pub short : length register ≤ predicateBytes mostLength
