@@ -1,10 +1,9 @@
 -- The paper's predicates beside the definition: of two bytes, at each size, of every lane, of three lanes and of none, and the longest one.
 -- A predicate that is made for wide lanes does not have every narrow lane active.
 -- Assumes nothing.
-use Prim.Native.Nat.{ℕ}
 use mathlib.Core.Path.{_≡_, refl}
 use mathlib.Core.Bool.{true, false}
-use mathlib.Core.List.{List, [], _∷_}
+use mathlib.Core.List.{[], _∷_}
 use lib.ListN.{replicate}
 use Rattle.lanes.specs.Lane.{widthOf, active}
 use Rattle.made.specs.Made.{madeByte, madeBytes}

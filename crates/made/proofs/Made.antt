@@ -3,15 +3,14 @@
 -- Assumes nothing.
 use Prim.Native.Nat.{ℕ, zero, suc, _+_, _-_, _*_, _/_, _%_, _^_, _≤_, _<_}
 use mathlib.Core.Path.{_≡_, refl, sym, _∙_, ap, ap₂}
-use mathlib.Core.Bool.{Bool, true, false, cond}
-use mathlib.Core.List.{List, [], _∷_}
-use native.Mathlib.Nat.{zero-add, zero-div, zero-mod, zero-mul, mul-comm, mul-assoc, mod-lt, div-add-mod, mul-div-cancel, div-lt-iff-lt-mul, mul-le-mul-right, lt-of-mul-lt-mul-right}
+use mathlib.Core.Bool.{true, false, cond}
+use mathlib.Core.List.{_∷_}
+use native.Mathlib.Nat.{zero-add, zero-div, zero-mul, mul-comm, mul-assoc, mod-lt, div-add-mod, mul-div-cancel, div-lt-iff-lt-mul, mul-le-mul-right, lt-of-mul-lt-mul-right}
 use native.Mathlib.Omega.{arith}
 use lib.Dec.{eqb, ltb}
 use lib.ListN.{length, getD, replicate}
 use lib.Pow.{pow-pos, pow-add}
 use borrow.Author.Tests.{lt-ltb, eq-eqb}
-use Rattle.parts.specs.Part.{both}
 use Rattle.parts.specs.Number.{AreBytes}
 use Rattle.machine.specs.Size.{sizes}
 use Rattle.lanes.specs.Lane.{widthOf, bitAt, active}

@@ -1,14 +1,13 @@
 -- `lanes_below` meets its contract: a count of at least a byte's lanes fills the byte; a smaller one has fewer bits than eight, and their
 -- number is taken modulo that power of two.
 -- Assumes nothing.
-use Prim.Native.Nat.{ℕ, suc, _*_, _/_, _%_, _^_, _≤_, _<_}
+use Prim.Native.Nat.{ℕ, _*_, _/_, _%_, _^_, _<_}
 use mathlib.Core.Path.{_≡_, sym, _∙_, ap₂}
 use native.Mathlib.Nat.{one-mul, suc-mul, mod-eq-of-lt, mul-le-mul-right, le-div-iff-mul-le}
 use native.Mathlib.Omega.{arith}
 use lib.Pow.{pow-pos, pow-lt}
 use borrow.Author.Needs.{needs}
 use Rattle.lanes.specs.Lane.{widthOf}
-use Rattle.made.specs.Made.{madeByte}
 use Rattle.made.proofs.Bytes.{lanes-fill, byte-whole, byte-cut}
 use Rattle.made.proofs.lanes_below.Statement.{statement}
 use Rattle.made.proofs.lanes_below.Tie as tie
