@@ -1,1 +1,4 @@
+pub mod Patterns
+pub mod Powers
+pub mod Largest
 pub mod Literals

@@ -7,7 +7,7 @@ use mathlib.Core.List.{List, [], _∷_, _++_, map}
 use lib.ListN.{replicate}
 use Rattle.parts.specs.Text.{bytes}
 use Rattle.digits.specs.Digits.{digitOf, digitsIn, widthWithin, decimalWidth}
-use Rattle.patterns.specs.Lanes.{doubledWithin, powerWithin, multipleWithin, fixedWithin, patternLanes}
+use Rattle.patterns.specs.Lanes.{doubledWithin, powerWithin, multipleWithin, fixedWithin, kindOf, patternLanes}
 use Rattle.patterns.specs.Text.{patterns, patternText}
 
 -- the numbers from one on, so many of them
@@ -39,7 +39,7 @@ pub lanes-literal : map lanesAt (2 ∷ 4 ∷ 8 ∷ 16 ∷ 32 ∷ 64 ∷ 128 ∷ 
     ∷ line 8 eight (0 ∷ 0 ∷ 0 ∷ 0 ∷ 0 ∷ []) (12 ∷ 12 ∷ 12 ∷ [])
     ∷ line 64 eight (16 ∷ 32 ∷ 64 ∷ 0 ∷ 0 ∷ []) (100 ∷ 99 ∷ 100 ∷ [])
     ∷ []
-unfolding patternLanes powerWithin doubledWithin multipleWithin fixedWithin
+unfolding patternLanes kindOf powerWithin doubledWithin multipleWithin fixedWithin
 lanes-literal = refl
 
 pub texts-literal : map patternText (upFrom patterns 0)
@@ -76,5 +76,5 @@ pub texts-literal : map patternText (upFrom patterns 0)
     ∷ bytes "mul3"
     ∷ bytes "all"
     ∷ []
-unfolding patternText digitOf digitsIn widthWithin decimalWidth
+unfolding patternText kindOf digitOf digitsIn widthWithin decimalWidth
 texts-literal = refl

@@ -21,20 +21,40 @@ multipleWithin n count = count - count % n
 unfoldable pub fixedWithin : ℕ → ℕ → ℕ
 fixedWithin n count = cond (leb n count) n 0
 
+-- the kinds of patterns: the largest power of two, a fixed number of lanes, the largest multiple of a number, all lanes, none
+pub data Kind : Type 0 where
+  power : Kind
+  fixed : ℕ → Kind
+  multiple : ℕ → Kind
+  all : Kind
+  none : Kind
+
+-- how many of so many lanes a kind names
+abbrev pub kindLanes : Kind → ℕ → ℕ
+kindLanes power count = powerWithin count
+kindLanes (fixed n) count = fixedWithin n count
+kindLanes (multiple n) count = multipleWithin n count
+kindLanes all count = count
+kindLanes none count = 0
+
 -- the numbers that patterns 9 to 13 fix: 16, 32, 64, 128 and 256
 abbrev pub doubling : ℕ → ℕ
 doubling pattern = 16 * 2 ^ (pattern - 9)
 
--- how many lanes a pattern names, by the lane count: 0 the largest power of two, 1 to 8 that many, 9 to 13 from 16 to 256, 29 and 30 the
--- largest multiples of 4 and of 3, 31 all, every other none
+-- the kind of a pattern: 0 the largest power, 1 to 8 that many lanes, 9 to 13 from 16 to 256, 29 and 30 the largest multiples of 4 and of 3,
+-- 31 all, every other none
+unfoldable pub kindOf : ℕ → Kind
+kindOf pattern =
+    cond (eqb pattern 0) power
+    (cond (leb pattern 8) (fixed pattern)
+    (cond (leb pattern 13) (fixed (doubling pattern))
+    (cond (eqb pattern 29) (multiple 4)
+    (cond (eqb pattern 30) (multiple 3)
+    (cond (eqb pattern 31) all none)))))
+
+-- how many lanes a pattern names, by the lane count
 unfoldable pub patternLanes : ℕ → ℕ → ℕ
-patternLanes pattern count =
-    cond (eqb pattern 0) (powerWithin count)
-    (cond (leb pattern 8) (fixedWithin pattern count)
-    (cond (leb pattern 13) (fixedWithin (doubling pattern) count)
-    (cond (eqb pattern 29) (multipleWithin 4 count)
-    (cond (eqb pattern 30) (multipleWithin 3 count)
-    (cond (eqb pattern 31) count 0)))))
+patternLanes pattern count = kindLanes (kindOf pattern) count
 
 -- a power of two, and a multiple of a number
 pub record IsPower (n : ℕ) : Type 0 where

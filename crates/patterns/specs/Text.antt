@@ -2,25 +2,26 @@
 use Prim.Native.Nat.{ℕ, zero, suc}
 use mathlib.Core.Bool.{cond}
 use mathlib.Core.List.{List, _++_}
-use lib.Dec.{eqb, leb}
 use Rattle.parts.specs.Part.{sameBytes}
 use Rattle.parts.specs.Text.{bytes}
 use Rattle.digits.specs.Digits.{decimal}
-use Rattle.patterns.specs.Lanes.{doubling}
+use Rattle.patterns.specs.Lanes.{Kind, power, fixed, multiple, all, none, kindOf}
 
 -- how many patterns there are
 abbrev pub patterns : ℕ
 patterns = 32
 
--- a pattern's name in the manual, in lower case; `#` and the number of one that has no name
+-- the name of a kind in the manual, in lower case; `#` and the pattern's number for a kind that has none
+abbrev pub kindText : Kind → ℕ → List ℕ
+kindText power pattern = bytes "pow2"
+kindText (fixed n) pattern = bytes "vl" ++ decimal n
+kindText (multiple n) pattern = bytes "mul" ++ decimal n
+kindText all pattern = bytes "all"
+kindText none pattern = bytes "#" ++ decimal pattern
+
+-- how a pattern reads
 unfoldable pub patternText : ℕ → List ℕ
-patternText pattern =
-    cond (eqb pattern 0) (bytes "pow2")
-    (cond (leb pattern 8) (bytes "vl" ++ decimal pattern)
-    (cond (leb pattern 13) (bytes "vl" ++ decimal (doubling pattern))
-    (cond (eqb pattern 29) (bytes "mul4")
-    (cond (eqb pattern 30) (bytes "mul3")
-    (cond (eqb pattern 31) (bytes "all") (bytes "#" ++ decimal pattern))))))
+patternText pattern = kindText (kindOf pattern) pattern
 
 -- the first of so many patterns from one on whose text some bytes are; the one after them where none is
 unfoldable pub namedFrom : ℕ → ℕ → List ℕ → ℕ

@@ -84,8 +84,8 @@ pub fn put_pattern(out: &mut [u8], at: usize, pattern: usize) -> usize
         0 => put_bytes(out, at, b"pow2"),
         1..=8 => put_numbered(out, at, b"vl", pattern),
         9..=13 => put_numbered(out, at, b"vl", doubling_of(pattern)),
-        29 => put_bytes(out, at, b"mul4"),
-        30 => put_bytes(out, at, b"mul3"),
+        29 => put_numbered(out, at, b"mul", 4),
+        30 => put_numbered(out, at, b"mul", 3),
         31 => put_bytes(out, at, b"all"),
         _ => put_numbered(out, at, b"#", pattern),
     }
