@@ -1,10 +1,12 @@
 -- The kind of each pattern, by the arms of a match on it; and what a pattern's kind says of its lanes and its text.
 -- Assumes nothing.
-use Prim.Native.Nat.{ℕ, _≤_, _<_}
+use Prim.Native.Nat.{ℕ, _+_, _≤_, _<_}
 use mathlib.Core.Path.{_≡_, refl, sym, _∙_, ap}
 use mathlib.Core.List.{List}
 use native.Mathlib.Omega.{arith}
+use lib.ListN.{length}
 use borrow.Author.Tests.{ne-eqb, le-leb, lt-leb}
+use Rattle.digits.specs.Put.{Put}
 use Rattle.patterns.specs.Lanes.{Kind, power, fixed, multiple, all, none, kindLanes, doubling, kindOf, patternLanes}
 use Rattle.patterns.specs.Text.{kindText, patternText}
 
@@ -55,3 +57,11 @@ lanes-of-kind pattern count e = ap (λ (k : Kind). kindLanes k count) (sym e)
 pub text-of-kind : (pattern : ℕ) {kind : Kind} → kindOf pattern ≡ kind → kindText kind pattern ≡ patternText pattern
 unfolding patternText
 text-of-kind pattern e = ap (λ (k : Kind). kindText k pattern) (sym e)
+
+-- room for a pattern's text is room for that of its kind, and the kind's text written is the pattern's
+pub kind-room : (pattern at : ℕ) {kind : Kind} {n : ℕ} → kindOf pattern ≡ kind → at + length (patternText pattern) ≤ n → at + length (kindText kind pattern) ≤ n
+kind-room pattern at e room = rw (text-of-kind pattern e) room
+
+pub kind-put : (pattern : ℕ) {kind : Kind} {old new : List ℕ} {at next : ℕ} → kindOf pattern ≡ kind → Put old at (kindText kind pattern) new next
+    → Put old at (patternText pattern) new next
+kind-put pattern e put = rw (← text-of-kind pattern e) put
