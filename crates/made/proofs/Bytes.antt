@@ -1,5 +1,5 @@
--- A byte of a made predicate: with no lane too few it has the first bit of each of its lanes, with fewer the low digits of that; and byte j
--- is the first byte of what is made of the lanes that are left after those of the j bytes before.
+-- A byte of a made predicate: where all its lanes are below the count it has the first bit of each, and where fewer are it has the low digits
+-- of that. Byte j is the first byte of what is made of the lanes that are left after those of the j bytes before.
 -- Assumes nothing.
 use Prim.Native.Nat.{ℕ, _+_, _-_, _*_, _/_, _%_, _^_, _≤_, _<_}
 use mathlib.Core.Path.{_≡_, refl, sym, _∙_, ap, ap₂}

@@ -1,7 +1,7 @@
 // The predicate that a word makes, written over a register byte by byte.
 ghost use mathlib.Core.Path.{_≡_};
 ghost use Prim.Native.Nat.{_-_, _<_};
-ghost use lib.ListN.{length};
+ghost use lib.ListN.{length, set};
 ghost use Rattle.machine.specs.Size.{sizes};
 ghost use Rattle.made.specs.Made.{madeByte, madeBytes};
 
@@ -26,7 +26,8 @@ fn lanes_below(size: usize, count: usize) -> u8
     if 8 >> size <= count {
         return every_lane(size);
     }
-    every_lane(size) % (1u8 << (count << size))
+    let w = lanes::width_of(size);
+    every_lane(size) % (1u8 << (count * w))
 }
 
 // How many are left of some without others, none where the others are more.
@@ -34,6 +35,14 @@ fn less(some: usize, others: usize) -> usize
     ensures { λ r. ⌜ r ≡ some - others ⌝ }
 {
     if some < others { 0 } else { some - others }
+}
+
+// Writes byte j of a register.
+fn put_byte(register: &mut [u8], j: usize, byte: u8)
+    requires { ⌜ j < length (now register) ⌝ }
+    ensures { λ _. ⌜ now (register .exit) ≡ set (now (register .entry)) j byte ⌝ }
+{
+    register[j] = byte;
 }
 
 // Writes over a register the predicate that has the lanes of a size below the count active, and no other bit set.
@@ -44,7 +53,7 @@ pub fn put_made(register: &mut [u8], size: usize, count: usize)
     let mut left = count;
     let mut j = 0;
     while j < register.len() {
-        register[j] = lanes_below(size, left);
+        put_byte(register, j, lanes_below(size, left));
         left = less(left, 8 >> size);
         j += 1;
     }

@@ -2,7 +2,7 @@
 -- number is taken modulo that power of two.
 -- Assumes nothing.
 use Prim.Native.Nat.{ℕ, _*_, _/_, _%_, _^_, _<_}
-use mathlib.Core.Path.{_≡_, sym, _∙_, ap₂}
+use mathlib.Core.Path.{_≡_, sym, _∙_, ap, ap₂}
 use native.Mathlib.Nat.{one-mul, suc-mul, mod-eq-of-lt, mul-le-mul-right, le-div-iff-mul-le}
 use native.Mathlib.Omega.{arith}
 use lib.Pow.{pow-pos, pow-lt}
@@ -16,12 +16,9 @@ use Rattle.made.proofs.lanes_below.Tie as tie
 few : (size count : ℕ) → count < 8 / widthOf size → count * widthOf size < 8
 few size count h = omega (arith, le-div-iff-mul-le (pow-pos size) .0 h, suc-mul count (widthOf size), pow-pos size)
 
--- the bits' count as a shift makes it, and the power of two as the second shift does
-shifted : (size count : ℕ) → count < 8 / widthOf size → (count * 2 ^ size) % 2 ^ 64 ≡ count * widthOf size
-shifted size count h = mod-eq-of-lt (omega (arith, few size count h))
-
-power : (m n : ℕ) → m ≡ n → n < 8 → (1 * 2 ^ m) % 256 ≡ 2 ^ n
-power m n same h = rw (same, one-mul (2 ^ n)) (mod-eq-of-lt (pow-lt {i = n} {j = 8} h))
+-- the power of two as a shift makes it
+power : (n : ℕ) → n < 8 → (1 * 2 ^ n) % 256 ≡ 2 ^ n
+power n h = rw (one-mul (2 ^ n)) (mod-eq-of-lt (pow-lt {i = n} {j = 8} h))
 
 returns : tie.Need-returns
 returns c =
@@ -29,32 +26,39 @@ returns c =
     c .every-lane .ensures
     ∙ sym (byte-whole (a .size) (a .count) (rw (← lanes-fill (a .size) (c .before .before .pre)) (mul-le-mul-right (widthOf (a .size)) (c .before .if1 .taken))))
 
--- past the test, the count is of fewer lanes than a byte has
-fewer : (c : tie.After-every-lane2) → c .before .before .args .count < 8 / widthOf (c .before .before .args .size)
-fewer c = c .before .if1 .left
+-- past the test, the count's bits are those of its lanes, and fewer than eight
+module _ (c : tie.After-every-lane2) where
+  abbrev size : ℕ
+  size = c .before .before .before .args .size
 
-bits : (c : tie.After-every-lane2) → (c .before .before .args .count * 2 ^ c .before .before .args .size) % 2 ^ 64 < 8
-bits c = let a = c .before .before .args in rw (shifted (a .size) (a .count) (fewer c)) (few (a .size) (a .count) (fewer c))
+  abbrev count : ℕ
+  count = c .before .before .before .args .count
 
-modulus : (c : tie.After-every-lane2)
-    → (1 * 2 ^ ((c .before .before .args .count * 2 ^ c .before .before .args .size) % 2 ^ 64)) % 256 ≡ 2 ^ (c .before .before .args .count * widthOf (c .before .before .args .size))
-modulus c = let a = c .before .before .args in power _ _ (shifted (a .size) (a .count) (fewer c)) (few (a .size) (a .count) (fewer c))
+  abbrev bits : ℕ
+  bits = count * c .before .width-of .result
 
-cast-result : tie.Need-cast-result
-cast-result c = omega (arith, bits c)
+  width : bits ≡ count * widthOf size
+  width = ap (λ (w : ℕ). count * w) (c .before .width-of .ensures)
 
-shl-result-2 : tie.Need-shl-result-2
-shl-result-2 c = bits c
-
-rem-result : tie.Need-rem-result
-rem-result c = rw (modulus c) (pow-pos (c .before .before .args .count * widthOf (c .before .before .args .size)))
+  below : bits < 8
+  below = rw width (few size count (c .before .before .if1 .left))
 
 returns-2 : tie.Need-returns-2
 returns-2 c =
-    let a = c .before .before .args in
-    ap₂ (λ (n m : ℕ). n % m) (c .every-lane2 .ensures) (modulus c) ∙ sym (byte-cut (a .size) (a .count) (omega (arith, few (a .size) (a .count) (fewer c))))
+    ap₂ (λ (n m : ℕ). n % m) (c .every-lane2 .ensures) (power (bits c) (below c) ∙ ap (λ (n : ℕ). 2 ^ n) (width c))
+    ∙ sym (byte-cut (size c) (count c) (omega (arith, width c, below c)))
 
 pub lanes-below-spec : {M : Type 1} → statement M
 lanes-below-spec =
     tie.close
-    (tie.spec (λ c. search needs) (λ c κs. search needs) returns (λ c κs. search needs) (λ c. search needs) cast-result shl-result-2 rem-result returns-2)
+    (tie.spec
+    (λ c. search needs)
+    (λ c κs. search needs)
+    returns
+    (λ c κs. search needs)
+    (λ c κs. search needs)
+    (λ c. omega (arith, below c))
+    (λ c. omega (arith, below c))
+    (λ c. below c)
+    (λ c. rw (power (bits c) (below c)) (pow-pos (bits c)))
+    returns-2)

@@ -1,14 +1,15 @@
 -- `put_made` meets its contract: after j turns the first j bytes are the predicate's, and the lanes left are those of the bytes to come.
 -- Assumes nothing.
-use Prim.Native.Nat.{ℕ, _-_, _*_, _/_, _≤_}
+use Prim.Native.Nat.{ℕ, suc, _-_, _*_, _/_, _≤_, _<_}
 use mathlib.Core.Path.{_≡_, refl, sym, _∙_, ap, ap₂}
 use mathlib.Core.List.{List, [], _∷_, _++_}
 use native.Mathlib.Nat.{zero-add, zero-mul, suc-mul, sub-zero}
 use native.Mathlib.Numerals.{add-one}
 use native.Mathlib.Omega.{arith}
-use lib.ListN.{length, take, length-set}
+use lib.ListN.{length, take, set, length-set}
 use lib.Seq.{take-length, take-suc-set}
 use borrow.Author.Needs.{needs}
+use Rattle.machine.specs.Size.{sizes}
 use Rattle.lanes.specs.Lane.{widthOf}
 use Rattle.lanes.specs.Sum.{each}
 use Rattle.made.specs.Made.{madeByte, madeBytes}
@@ -30,20 +31,29 @@ abbrev μ-loop : tie.MeasureT-loop
 loop-holds : tie.Need-loop-holds Inv-loop μ-loop
 loop-holds c = (omega arith, refl, rw (zero-mul (8 / widthOf (c .before .args .size))) (sym (sub-zero (c .before .args .count))), refl)
 
+-- with byte j put behind the first j, the first j + 1 are the predicate's
+put-next : (size count left j byte : ℕ) (old new : List ℕ) → size < sizes → j < length old → left ≡ count - j * (8 / widthOf size)
+    → byte ≡ madeByte size left 0 → new ≡ set old j byte → take j old ≡ each (madeByte size count) 0 j
+    → take (suc j) new ≡ each (madeByte size count) 0 (suc j)
+put-next size count left j byte old new sized inside lanes is put first =
+    ap (take (suc j)) put
+    ∙ take-suc-set old j byte inside
+    ∙ ap₂ (λ (bs : List ℕ) (b : ℕ). bs ++ (b ∷ [])) first (is ∙ ap (λ (n : ℕ). madeByte size n 0) lanes ∙ sym (byte-later size count j sized))
+    ∙ ap (λ (i : ℕ). each (madeByte size count) 0 j ++ (madeByte size count i ∷ [])) (sym (zero-add j))
+    ∙ sym (each-more (madeByte size count) 0 j)
+
 loop-again : tie.Need-loop-again Inv-loop μ-loop
 loop-again c =
-    let l = c .before .before .before .loop in
-    let s = c .before .before .before .before .before in
-    let a = s .args in
-    let per = 8 / widthOf (a .size) in
-    let byte : c .before .lanes-below .result ≡ madeByte (a .size) (a .count) (l .j) =
-    c .before .lanes-below .ensures ∙ ap (λ (n : ℕ). madeByte (a .size) n 0) (l .inv .2) ∙ sym (byte-later (a .size) (a .count) (l .j) (s .pre)) in (
+    let put = c .before .before .before in
+    let byte = put .before .lanes-below in
+    let l = put .before .before .before .before .loop in
+    let s = put .before .before .before .before .before .before in (
       omega arith,
-      simp length-set (l .inv .1),
-      rw (add-one (l .j)) (c .less .ensures ∙ omega (arith, l .inv .2, suc-mul (l .j) per)),
-      rw (add-one (l .j)) (take-suc-set (l .register) (l .j) (c .before .lanes-below .result) (omega arith)
-          ∙ ap₂ (λ (bs : List ℕ) (b : ℕ). bs ++ (b ∷ [])) (l .inv .3) (byte ∙ ap (madeByte (a .size) (a .count)) (sym (zero-add (l .j))))
-          ∙ sym (each-more (madeByte (a .size) (a .count)) 0 (l .j))),
+      ap length (put .put-byte .ensures) ∙ simp length-set (l .inv .1),
+      rw (add-one (l .j)) (c .less .ensures ∙ omega (arith, l .inv .2, suc-mul (l .j) (8 / widthOf (s .args .size)))),
+      rw (add-one (l .j))
+          (put-next (s .args .size) (s .args .count) (l .left) (l .j) (byte .result) (l .register) (put .put-byte .last .0) (s .pre) (omega arith) (l .inv .2)
+          (byte .ensures) (put .put-byte .ensures) (l .inv .3)),
     )
 
 same-length : tie.Need-same-length Inv-loop μ-loop
@@ -68,7 +78,7 @@ put-made-spec =
     μ-loop
     loop-holds
     (λ c κs. search needs)
-    (λ c. search needs)
+    (λ c κs. search needs)
     (λ c. search needs)
     (λ c κs. search needs)
     (λ c. search needs)
