@@ -19,6 +19,7 @@ use Rattle.words.specs.Decode.{decoded, numberOf, fieldsOf, wordTests}
 use Rattle.words.specs.declared.Fields.{Fields}
 use Rattle.words.specs.declared.Decoded.{Decoded}
 use Rattle.words.specs.declared.Decoded.the-variants.{Unknown, Undefined, Word}
+use Rattle.words.proofs.Decoding.{destination-in}
 use Rattle.words.proofs.Encoding.{decoded-in-range}
 use Rattle.cores.specs.Core.{decodedOn}
 use Rattle.cores.proofs.Answers.{core-decodes}
@@ -65,7 +66,7 @@ pub record AcceptedStep (c : Core) (program : List ℕ) (b : Buffers) : Type 0 w
 
 -- the register that a word writes has a number that an entry may have
 pub target-named : (f : Fields) (k version : ℕ) (s : State) → Executable f k s → entryNumber (targetOf f) ≤ layoutOf version .greatest
-target-named f k version s x = rw (target-is f, vector-number (f .d)) (vector-named version (f .d) (x .fields .d))
+target-named f k version s x = rw (target-is f, vector-number (f .d)) (vector-named version (f .d) (destination-in (x .fields)))
 
 module _ (c : Core) (program : List ℕ) (b : Buffers) where
   -- the word at the position, as the core takes it
@@ -173,7 +174,7 @@ back-accepts k b r = back-number k b ∙ returns-accepted k b r
 pub can-append : (k : ℕ) (f : Fields) (b : Buffers) → Ready k f b → isFull k (b .journal) ≡ false → Append k (f .d) (b .files .z) (b .journal)
 can-append k f b ready room =
     record {
-      register = in-files k (b .files .z) (b .files .p) Vector (f .d) (ready .word .lent) (ready .word .fields .d);
+      register = in-files k (b .files .z) (b .files .p) Vector (f .d) (ready .word .lent) (destination-in (ready .word .fields));
       entry = record {
         headed = record { legal = legal-most k (ready .word .lent .legal); header = ready .formed .least };
         place = full-room k (b .journal) room (ready .formed);

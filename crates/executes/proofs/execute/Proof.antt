@@ -7,6 +7,7 @@ use mathlib.Core.Path.{_≡_, sym, _∙_, ap}
 use mathlib.Core.List.{List}
 use native.Mathlib.Omega.{arith}
 use lib.ListN.{length}
+use Rattle.words.proofs.Decoding.{destination-in}
 use Rattle.machine.specs.Size.{vectorBytes, segmentBytes}
 use Rattle.registers.specs.Register.{padded, withVector}
 use Rattle.registers.specs.State.{state}
@@ -60,7 +61,7 @@ low-bytes-requires c κs =
 write-register-requires : tie.Need-write-register-requires
 write-register-requires c κs =
     let h = low-start (c .before .before) .pre in
-    (vector-in _ _ _ h _ (h .fields .d), omega (arith, low-sized (c .before .before), k-least _ _ _ h))
+    (vector-in _ _ _ h _ (destination-in (h .fields)), omega (arith, low-sized (c .before .before), k-least _ _ _ h))
 
 write-lanes-requires : tie.Need-write-lanes-requires
 write-lanes-requires c κs =

@@ -11,6 +11,7 @@ use Rattle.machine.proofs.Checks.{legal-most}
 use Rattle.registers.specs.Register.{Register, vectorOf}
 use Rattle.registers.specs.State.{State, state}
 use Rattle.words.specs.declared.Fields.{Fields}
+use Rattle.words.proofs.Decoding.{destination-in}
 use Rattle.meaning.specs.Execute.{targetOf}
 use Rattle.meaning.specs.Needs.{Executable}
 use Rattle.meaning.proofs.Effects.{target-is, executed-state}
@@ -31,7 +32,7 @@ full k f b h = rw h
 
 -- the entry that is appended is that of the register which the word writes
 entry-is : (k : ℕ) (f : Fields) (s : State) → Executable f k s → record { number = f .d; old = vectorOf k (f .d) (s .z) } ≡ entryOf k (targetOf f) s
-entry-is k f s x = sym (ap (λ (r : Register). entryOf k r s) (target-is f) ∙ vector-entry k (f .d) s (x .lent) (x .fields .d))
+entry-is k f s x = sym (ap (λ (r : Register). entryOf k r s) (target-is f) ∙ vector-entry k (f .d) s (x .lent) (destination-in (x .fields)))
 
 carried-out : (k : ℕ) (f : Fields) (b : Buffers) (z-after after : List ℕ) → Executable f k (b .files) → isFull k (b .journal) ≡ false → CarriedOut k f b z-after after
     → Performed k f b DONE (buffersOf (state z-after (b .files .p)) after)
