@@ -37,13 +37,13 @@ use Rattle.rows.specs.declared.WideFamily.the-variants.{Pairwise, Widening}
 use Rattle.sums.proofs.Widths.{width-legal}
 use Rattle.meaning.specs.Terms.{Operands, Source, Operand1, Operand2, Old, operandOf, elementOf, sumOf, selected, firstTerm}
 use Rattle.meaning.specs.Meaning.{wideTerms}
-use Rattle.meaning.specs.Execute.{operandsOf, maskOf, integerAfter, laneWritten, executed}
+use Rattle.meaning.specs.Execute.{kindWritten, operandsOf, maskOf, integerAfter, laneWritten, executed}
 use Rattle.meaning.specs.Needs.{ExecutableAs}
 use Rattle.widens.specs.Needs.{WideLanes, WideTurn}
 use Rattle.elements.proofs.Halves.{half-taken, element-same, half-same}
 use Rattle.registers.proofs.Padded.{padded-full}
 use Rattle.meaning.proofs.Effects.{sourceField, source-below, operand-bytes, mask-bytes, executed-vectors}
-use Rattle.meaning.proofs.Sizes.{whole, k-most, wide-halves, vector-in, vector-length}
+use Rattle.meaning.proofs.Sizes.{whole, k-most, wide-halves, vector-in, vector-length, vector-destination}
 
 -- a part written right behind another is one part
 with-next : (a n m : ℕ) (e g l : List ℕ) → a + n + m ≤ length l → length e ≡ n → withPart (a + n) m g (withPart a n e l) ≡ withPart a (n + m) (e ++ g) l
@@ -208,7 +208,8 @@ module _ (wide : WideFamily) (f : Fields) (k : ℕ) (s : State) (x : ExecutableA
 
   after-all : fileAfter f k s (vectorBytes k / w) ≡ executed f k s .z
   after-all =
-      rw (executed-vectors f k s, x .is)
+      let vectors = ap kindWritten (x .is) in
+      rw (executed-vectors f k s vectors, vector-destination f k s (x .word) vectors, x .is)
       (ap₂ (λ (n : ℕ) (lanes : List ℕ). withPart (place (f .d)) n lanes (s .z)) filled
       (sym (padded-full (vectorBytes k) _ (length-lanes w 0 (vectorBytes k / w) _ ∙ filled))))
     where

@@ -96,7 +96,7 @@ pub low-bytes-spec : {M : Type 1} → statement M
 low-bytes-spec =
     tie.close
     (tie.spec
-    (λ c κs. search needs)  -- width-of-requires
+    (λ c κs. size-in (c .before .before .pre .0 .word .fields))  -- width-of-requires
     register-requires
     register-requires-2
     (λ c. search needs)  -- enum-told
