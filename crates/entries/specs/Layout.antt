@@ -110,13 +110,12 @@ slotOf k journal i = i
 abbrev pub entryAt : ℕ → List ℕ → ℕ → ℕ
 entryAt k journal i = slotAt (headerOf journal) k (slotOf k journal i)
 
--- the held entry i, the first n, the last, and all
+-- the entry that starts at a place; the held entry i, the first n, the last, and all
+abbrev pub entryFrom : ℕ → ℕ → List ℕ → Entry
+entryFrom k at journal = record { number = getD journal at 0; old = part (at + 1) (vectorBytes k) journal }
+
 abbrev pub entryIn : ℕ → List ℕ → ℕ → Entry
-entryIn k journal i =
-    record {
-      number = getD journal (entryAt k journal i) 0;
-      old = part (entryAt k journal i + 1) (vectorBytes k) journal;
-    }
+entryIn k journal i = entryFrom k (entryAt k journal i) journal
 
 abbrev pub firstEntries : ℕ → List ℕ → ℕ → List Entry
 firstEntries k journal zero = []

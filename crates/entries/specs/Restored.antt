@@ -8,9 +8,13 @@ use Rattle.registers.specs.Register.{Register, registerFrom, registerBytes, reg
 use Rattle.registers.specs.State.{State, contents, write}
 use Rattle.entries.specs.Layout.{Entry}
 
--- the entry of register r of a kind, from the file of that kind: its number, then its bytes, with zeros after those of a predicate
+-- an entry's number and a register's bytes, with zeros after those of a predicate
+abbrev pub paddedEntry : ℕ → ℕ → List ℕ → Entry
+paddedEntry k number bytes = record { number = number; old = padded (vectorBytes k) bytes }
+
+-- the entry of register r of a kind, from the file of that kind: its number, then its bytes as they stand
 abbrev pub registerEntry : ℕ → Kind → ℕ → List ℕ → Entry
-registerEntry k kind r file = record { number = entryNumber (registerFrom kind r); old = padded (vectorBytes k) (registerOf k kind r file) }
+registerEntry k kind r file = paddedEntry k (entryNumber (registerFrom kind r)) (registerOf k kind r file)
 
 -- the entry of a register in a state
 abbrev pub entryOf : ℕ → Register → State → Entry
