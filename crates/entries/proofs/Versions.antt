@@ -3,20 +3,21 @@
 -- their entries start right after the count. What is said of every version is shown of each line of the table.
 -- Assumes nothing.
 use Prim.Native.Nat.{ℕ, _+_, _-_, _≤_, _<_}
-use mathlib.Core.Path.{_≡_, refl, ap}
+use mathlib.Core.Path.{_≡_, refl, _∙_, ap}
 use mathlib.Core.Logic.{inl, inr, _↔_}
-use mathlib.Core.Bool.{Bool, true, false, cond}
+use mathlib.Core.Bool.{Bool, true, false, not, cond}
+use mathlib.Core.List.{List}
 use native.Mathlib.Omega.{arith}
-use lib.Dec.{eqb}
-use borrow.Author.Tests.{ne-eqb}
+use lib.Dec.{eqb, leb}
+use borrow.Author.Tests.{le-leb, lt-leb, eqb-true, eqb-false, ne-eqb}
 use Rattle.machine.specs.Size.{vectors, predicates}
 use Rattle.machine.proofs.Legal.{Among, among-given}
 use Rattle.registers.specs.declared.Kind.{Kind}
 use Rattle.registers.specs.declared.Kind.the-variants.{Vector, Predicate}
-use Rattle.registers.specs.Register.{Register, IsRegister, registerCount, predicate, entryNumber, numbered}
+use Rattle.registers.specs.Register.{Register, IsRegister, registerCount, vector, predicate, entryNumber, numbered}
 use Rattle.registers.proofs.Numbers.{numbered-is, vector-number, predicate-number}
 use Rattle.entries.specs.declared.Layout.{Layout}
-use Rattle.entries.specs.Layout.{countAt, countBytes, formerVersion, journalVersions, isVersion, laidOut, layoutOf}
+use Rattle.entries.specs.Layout.{countAt, countBytes, formerVersion, journalVersions, isVersion, laidOut, layoutOf, versionOf, mayName}
 
 -- the two lines
 abbrev pub former : Layout
@@ -83,6 +84,19 @@ register-named version r is other = by (r .kind) (r .number) is other
         → entryNumber (record { kind = kind; number = n }) ≤ layoutOf version .greatest
     by Vector n h other = rw (vector-number n) (vector-named version n h)
     by Predicate n h other = predicate-named version n h (other refl)
+
+-- and a journal's entry may name every vector, and a predicate exactly where its version is not the former
+pub vector-may : (n : ℕ) (journal : List ℕ) → n < vectors → mayName (entryNumber (vector n)) journal ≡ true
+vector-may n journal h = rw (vector-number n) (le-leb _ _ (vector-named (versionOf journal) n h))
+
+pub predicate-may : (n : ℕ) (journal : List ℕ) → n < predicates → mayName (entryNumber (predicate n)) journal ≡ not (eqb (versionOf journal) formerVersion)
+predicate-may n journal h = by (eqb (versionOf journal) formerVersion) refl
+  where
+    by : (t : Bool) → eqb (versionOf journal) formerVersion ≡ t → mayName (entryNumber (predicate n)) journal ≡ not t
+    by true is =
+        ap (λ (version : ℕ). leb (entryNumber (predicate n)) (layoutOf version .greatest)) (eqb-true (versionOf journal) formerVersion is)
+        ∙ lt-leb _ _ (former-names-none n)
+    by false is = le-leb _ _ (predicate-named (versionOf journal) n h (eqb-false (versionOf journal) formerVersion is))
 
 -- a version that is defined
 pub version-few : (version : ℕ) → isVersion version ≡ true → version < 65536

@@ -9,9 +9,28 @@ ghost use Rattle.machine.specs.Size.{mostLength, sizes, predicateBytes};
 ghost use Rattle.registers.specs.Register.{withRegister, InFile};
 ghost use Rattle.registers.specs.declared.Kind.the-variants.{Predicate};
 ghost use Rattle.registers.specs.State.{state};
+ghost use Rattle.rows.specs.Table.{familyOf};
 ghost use Rattle.made.specs.Made.{madeBytes};
-ghost use Rattle.meaning.specs.Execute.{laneCount, lanesMade, executed};
+ghost use Rattle.meaning.specs.Execute.{kindWritten, laneCount, lanesMade, executed};
 ghost use Rattle.meaning.specs.Needs.{Executable};
+
+// The kind of register that a family writes.
+fn kind_of(family: Family) -> Kind
+    ensures { λ r. ⌜ r ≡ kindWritten family ⌝ }
+{
+    match family {
+        Family::Low(_) => Kind::Vector,
+        Family::Wide(_) => Kind::Vector,
+        Family::Made(_) => Kind::Predicate,
+    }
+}
+
+// The kind of register that the words of the row at a place write.
+pub fn kind_written(row: usize) -> Kind
+    ensures { λ r. ⌜ r ≡ kindWritten (familyOf row) ⌝ }
+{
+    kind_of(rows::family_of(row))
+}
 
 // How many of so many lanes a word of a family makes active: as its pattern names, or none.
 fn lanes_made(made: MadeFamily, pattern: usize, count: usize) -> usize

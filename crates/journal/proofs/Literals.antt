@@ -38,23 +38,17 @@ abbrev pub predicateEntry : List ℕ
 predicateEntry =
     0x4C ∷ 0x4E ∷ 0x4A ∷ 0x02 ∷ 0x00 ∷ 0x01 ∷ 0x01 ∷ 0x00 ∷ [] ++ 35 ∷ 0xAA ∷ 0xBB ∷ 0 ∷ 0 ∷ 0 ∷ 0 ∷ 0 ∷ 0 ∷ 0 ∷ 0 ∷ 0 ∷ 0 ∷ 0 ∷ 0 ∷ 0 ∷ 0 ∷ []
 
-pub predicate-pushed-literal : pushed 1 (registerEntry 1 Predicate 3 predicatesBefore) (freshJournal 2 1 25) ≡ predicateEntry
-unfolding pushed journalOf layoutOf slotOf heldOf entryNumber
-predicate-pushed-literal = refl
-
 -- its entry is told without the zeros
-pub predicate-told-literal : entryAnswer 1 predicateEntry 0 ≡ record { number = 0; target = 35; start = 9; bytes = 2 }
-unfolding entryRefused layoutOf slotOf heldOf entriesOf numbered
-predicate-told-literal = refl
+pub predicate-literal : (pushed 1 (registerEntry 1 Predicate 3 predicatesBefore) (freshJournal 2 1 25) ≡ predicateEntry)
+    × (entryAnswer 1 predicateEntry 0 ≡ record { number = 0; target = 35; start = 9; bytes = 2 })
+unfolding pushed journalOf entryRefused layoutOf slotOf heldOf entriesOf entryNumber numbered
+predicate-literal = (refl, refl)
 
 -- taken back, P3 has its two bytes again, and the journal is a fresh one
-pub predicate-restored-literal : restored 1 (lastEntry 1 predicateEntry) (state [] (replicate 6 0x11 ++ 0xFF ∷ 0xFF ∷ [] ++ replicate 24 0x22)) ≡ state [] predicatesBefore
-unfolding layoutOf slotOf heldOf numbered
-predicate-restored-literal = refl
-
-pub predicate-popped-literal : popped 1 predicateEntry ≡ 0x4C ∷ 0x4E ∷ 0x4A ∷ 0x02 ∷ 0x00 ∷ 0x01 ∷ 0x00 ∷ 0x00 ∷ [] ++ replicate 17 0
-unfolding popped layoutOf slotOf heldOf
-predicate-popped-literal = refl
+pub predicate-back-literal : (restored 1 (lastEntry 1 predicateEntry) (state [] (replicate 6 0x11 ++ 0xFF ∷ 0xFF ∷ [] ++ replicate 24 0x22)) ≡ state [] predicatesBefore)
+    × (popped 1 predicateEntry ≡ 0x4C ∷ 0x4E ∷ 0x4A ∷ 0x02 ∷ 0x00 ∷ 0x01 ∷ 0x00 ∷ 0x00 ∷ [] ++ replicate 17 0)
+unfolding popped layoutOf slotOf heldOf numbered
+predicate-back-literal = (refl, refl)
 
 -- what stands after a predicate's old bytes is not looked at
 pub padding-literal : restored 1 (record { number = 47; old = 0xAA ∷ 0xBB ∷ replicate 14 0x77 }) (state [] (replicate 32 0)) ≡ state [] (replicate 30 0 ++ 0xAA ∷ 0xBB ∷ [])
@@ -62,13 +56,10 @@ unfolding numbered
 padding-literal = refl
 
 -- fresh journals of both versions, over nine bytes that held something else
-pub fresh-first-literal : freshened 1 1 (replicate 9 0xFF) ≡ leftWith 0 (0x4C ∷ 0x4E ∷ 0x4A ∷ 0x01 ∷ 0x00 ∷ 0x01 ∷ 0x00 ∷ 0x00 ∷ 0x00 ∷ [])
+pub fresh-literal : (freshened 1 1 (replicate 9 0xFF) ≡ leftWith 0 (0x4C ∷ 0x4E ∷ 0x4A ∷ 0x01 ∷ 0x00 ∷ 0x01 ∷ 0x00 ∷ 0x00 ∷ 0x00 ∷ []))
+    × (freshened 1 2 (replicate 9 0xFF) ≡ leftWith 0 (0x4C ∷ 0x4E ∷ 0x4A ∷ 0x02 ∷ 0x00 ∷ 0x01 ∷ 0x00 ∷ 0x00 ∷ 0x00 ∷ []))
 unfolding freshened journalOf layoutOf
-fresh-first-literal = refl
-
-pub fresh-second-literal : freshened 1 2 (replicate 9 0xFF) ≡ leftWith 0 (0x4C ∷ 0x4E ∷ 0x4A ∷ 0x02 ∷ 0x00 ∷ 0x01 ∷ 0x00 ∷ 0x00 ∷ 0x00 ∷ [])
-unfolding freshened journalOf layoutOf
-fresh-second-literal = refl
+fresh-literal = (refl, refl)
 
 -- no other version is made: JOURNAL is 5, after LENGTH, 1, and ROOM, 4
 pub fresh-refused-literal : (freshened 1 0 (replicate 8 7) ≡ leftWith 5 (replicate 8 7)) × (freshened 1 3 (replicate 8 7) ≡ leftWith 5 (replicate 8 7))
@@ -83,10 +74,6 @@ oneNumbered version n = 0x4C ∷ 0x4E ∷ 0x4A ∷ version ∷ 0x00 ∷ 0x01 ∷
 -- numbers to 31 in version 1, to 47 in version 2, and none in versions 0 and 3
 pub numbers-literal : (positionRefused 1 (oneNumbered 1 31) ≡ 0) × (positionRefused 1 (oneNumbered 1 32) ≡ 5) × (positionRefused 1 (oneNumbered 1 47) ≡ 5)
     × (positionRefused 1 (oneNumbered 2 31) ≡ 0) × (positionRefused 1 (oneNumbered 2 32) ≡ 0) × (positionRefused 1 (oneNumbered 2 47) ≡ 0)
-    × (positionRefused 1 (oneNumbered 2 48) ≡ 5)
+    × (positionRefused 1 (oneNumbered 2 48) ≡ 5) × (positionRefused 1 (oneNumbered 0 31) ≡ 5) × (positionRefused 1 (oneNumbered 3 31) ≡ 5)
 unfolding positionRefused layoutOf slotOf heldOf entriesOf
-numbers-literal = (refl, refl, refl, refl, refl, refl, refl)
-
-pub versions-refused-literal : (positionRefused 1 (oneNumbered 0 31) ≡ 5) × (positionRefused 1 (oneNumbered 3 31) ≡ 5)
-unfolding positionRefused layoutOf slotOf heldOf entriesOf
-versions-refused-literal = (refl, refl)
+numbers-literal = (refl, refl, refl, refl, refl, refl, refl, refl, refl)

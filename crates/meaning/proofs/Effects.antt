@@ -9,7 +9,7 @@ use lib.ListN.{length}
 use Rattle.machine.specs.Size.{vectors, vectorBytes}
 use Rattle.registers.specs.declared.Kind.{Kind}
 use Rattle.registers.specs.declared.Kind.the-variants.{Vector}
-use Rattle.registers.specs.Register.{Register, vector, predicate, IsRegister, registerCount, registerBytes, registerOf, vectorOf, predicateOf, withRegister, withVector}
+use Rattle.registers.specs.Register.{Register, registerFrom, vector, predicate, IsRegister, registerCount, registerBytes, registerOf, vectorOf, predicateOf, withRegister, withVector}
 use Rattle.registers.specs.State.{State, state, Sized, contents, withContents, read, write}
 use Rattle.registers.proofs.States.{length-read, write-sized, read-write}
 use Rattle.rows.specs.Table.{familyOf}
@@ -19,7 +19,7 @@ use Rattle.words.specs.Field.{destinationDigits}
 use Rattle.words.specs.declared.Fields.{Fields}
 use Rattle.words.proofs.Decoding.{governing-below, destination-in, source-in}
 use Rattle.meaning.specs.Terms.{Source, Operand1, Operand2, Old, operandOf}
-use Rattle.meaning.specs.Execute.{kindWritten, registerOfKind, targetOf, sourceOf, governingOf, operandsOf, maskOf, destinationAfter, effectOf, executed}
+use Rattle.meaning.specs.Execute.{kindWritten, targetOf, sourceOf, governingOf, operandsOf, maskOf, destinationAfter, effectOf, executed}
 use Rattle.meaning.specs.Needs.{Executable}
 use Rattle.meaning.proofs.Sizes.{second-most, length-destination}
 
@@ -30,13 +30,13 @@ sourceField f Operand2 = f .m
 sourceField f Old = f .d
 
 -- the registers, by the fields
-pub target-is : (f : Fields) → targetOf f ≡ registerOfKind (kindWritten (familyOf (f .row))) (f .d)
+pub target-is : (f : Fields) → targetOf f ≡ registerFrom (kindWritten (familyOf (f .row))) (f .d)
 unfolding targetOf
 target-is f = refl
 
 -- by the kind that the family writes
-pub target-of-kind : (f : Fields) (kind : Kind) → kindWritten (familyOf (f .row)) ≡ kind → targetOf f ≡ registerOfKind kind (f .d)
-target-of-kind f kind is = target-is f ∙ ap (λ (t : Kind). registerOfKind t (f .d)) is
+pub target-of-kind : (f : Fields) (kind : Kind) → kindWritten (familyOf (f .row)) ≡ kind → targetOf f ≡ registerFrom kind (f .d)
+target-of-kind f kind is = target-is f ∙ ap (λ (t : Kind). registerFrom t (f .d)) is
 
 pub source-is : (f : Fields) (source : Source) → sourceOf f source ≡ vector (sourceField f source)
 unfolding sourceOf

@@ -4,7 +4,7 @@ use mathlib.Core.List.{List}
 use lib.IntN.{ℤ}
 use Rattle.machine.specs.Size.{vectorBytes, predicateBytes}
 use Rattle.parts.specs.Number.{withNumber}
-use Rattle.registers.specs.Register.{Register, vector, predicate, registerAt, padded}
+use Rattle.registers.specs.Register.{Register, registerFrom, vector, predicate, registerAt, padded}
 use Rattle.registers.specs.declared.Kind.{Kind}
 use Rattle.registers.specs.declared.Kind.the-variants.{Vector, Predicate}
 use Rattle.registers.specs.State.{State, read, write}
@@ -27,13 +27,9 @@ kindWritten (Low low) = Vector
 kindWritten (Wide wide) = Vector
 kindWritten (Made made) = Predicate
 
--- the register of a kind and a number
-abbrev pub registerOfKind : Kind → ℕ → Register
-registerOfKind kind number = record { kind = kind; number = number }
-
 -- the register that a word writes
 unfoldable pub targetOf : Fields → Register
-targetOf f = registerOfKind (kindWritten (familyOf (f .row))) (f .d)
+targetOf f = registerFrom (kindWritten (familyOf (f .row))) (f .d)
 
 -- the register that an operand is
 unfoldable pub sourceOf : Fields → Source → Register
