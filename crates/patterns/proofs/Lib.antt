@@ -1,0 +1,5 @@
+pub mod Patterns
+pub mod Powers
+pub mod Largest
+pub mod Texts
+pub mod Literals
