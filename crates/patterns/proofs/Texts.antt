@@ -44,15 +44,42 @@ module _ (n : ℕ) (h : n < patterns) where
   pub text-free : spaceless (patternText n) ≡ true
   text-free = both-right (leb (length (patternText n)) 5) _ short-free
 
--- the search among the patterns stops at the one whose text it is, or goes on at the next
-pub named-here : (left pattern : ℕ) (text : List ℕ) → sameBytes (patternText pattern) text ≡ true → namedFrom (suc left) pattern text ≡ pattern
-unfolding namedFrom
-named-here left pattern text e = rw e
+-- a pattern from which the search finds what the whole search finds, among those that are left
+pub record Searched (text : List ℕ) (pattern : ℕ) : Type 0 where
+  pub left : ℕ
+  pub count : pattern + left ≡ patterns
+  pub same : namedFrom left pattern text ≡ patternNamed text
 
-pub named-next : (left pattern : ℕ) (text : List ℕ) → sameBytes (patternText pattern) text ≡ false
-    → namedFrom (suc left) pattern text ≡ namedFrom left (suc pattern) text
+pub searched-first : (text : List ℕ) → Searched text 0
+unfolding patternNamed
+searched-first text = record { left = patterns; count = refl; same = refl }
+
+-- the search stops at the pattern whose text it is, goes on at the next, and stops past the last
+pub searched-here : {text : List ℕ} {pattern : ℕ} → Searched text pattern → pattern < patterns → sameBytes (patternText pattern) text ≡ true
+    → pattern ≡ patternNamed text
 unfolding namedFrom
-named-next left pattern text e = rw e
+searched-here {text} {pattern} s h e = go (s .left) (s .count) (s .same)
+  where
+    go : (left : ℕ) → pattern + left ≡ patterns → namedFrom left pattern text ≡ patternNamed text → pattern ≡ patternNamed text
+    go zero count same = same
+    go (suc left) count same = sym (rw e) ∙ same
+
+pub searched-next : {text : List ℕ} {pattern : ℕ} → Searched text pattern → pattern < patterns → sameBytes (patternText pattern) text ≡ false
+    → Searched text (pattern + 1)
+unfolding namedFrom
+searched-next {text} {pattern} s h e = go (s .left) (s .count) (s .same)
+  where
+    go : (left : ℕ) → pattern + left ≡ patterns → namedFrom left pattern text ≡ patternNamed text → Searched text (pattern + 1)
+    go zero count same = absurd (omega arith)
+    go (suc left) count same = record { left = left; count = omega arith; same = rw add-one (sym (rw e) ∙ same) }
+
+pub searched-all : {text : List ℕ} {pattern : ℕ} → Searched text pattern → patterns ≤ pattern → pattern ≡ patternNamed text
+unfolding namedFrom
+searched-all {text} {pattern} s h = go (s .left) (s .count) (s .same)
+  where
+    go : (left : ℕ) → pattern + left ≡ patterns → namedFrom left pattern text ≡ patternNamed text → pattern ≡ patternNamed text
+    go zero count same = same
+    go (suc left) count same = absurd (omega arith)
 
 -- what the search finds among so many patterns is one whose text it is; past them it finds none
 named-from : (left pattern : ℕ) (text : List ℕ) → namedFrom left pattern text < pattern + left → patternText (namedFrom left pattern text) ≡ text
