@@ -1,17 +1,18 @@
 -- The paper's sentence on patterns, against the definition: the largest power of two and the largest multiples of 4 and of 3 that are not above
 -- the lane count, fixed numbers, none where one is above, and all; and that there is one largest, and no pattern names more lanes than there are.
 -- Assumes nothing.
-use Prim.Native.Nat.{ℕ, suc, _+_, _*_, _-_, _/_, _%_, _^_, _≤_, _<_}
-use mathlib.Core.Path.{_≡_, refl, sym, _∙_, ap}
+use Prim.Native.Nat.{ℕ, suc, _/_, _≤_, _<_}
+use mathlib.Core.Path.{_≡_, refl, sym}
 use mathlib.Core.Bool.{Bool, true, false, cond}
 use native.Mathlib.Nat.{pow-succ', div-add-mod', le-div-iff-mul-le, mul-le-mul-right}
 use native.Mathlib.Omega.{arith}
 use lib.Dec.{leb}
 use lib.Pow.{pow-mono}
 use borrow.Author.Tests.{leb-true, leb-false, le-leb, lt-leb}
-use Rattle.patterns.specs.Lanes.{Kind, power, fixed, multiple, all, none, powerWithin, multipleWithin, fixedWithin, kindLanes, doubling, kindOf, patternLanes, IsPower, IsMultiple, Largest}
+use Rattle.patterns.specs.Lanes.{powerWithin, multipleWithin, fixedWithin, doubling, patternLanes, IsPower, IsMultiple, Largest}
+use Rattle.patterns.specs.Lanes.{Kind, power, fixed, multiple, all, none, kindLanes, kindOf}
 use Rattle.patterns.proofs.Powers.{Last, power-last}
-use Rattle.patterns.proofs.Patterns.{small-kind, large-kind, zero-kind, four-kind, three-kind, all-kind, lanes-of-kind}
+use Rattle.patterns.proofs.Patterns.{small-kind, large-kind, zero-kind, four-kind, three-kind, all-kind, other-kind, lanes-of-kind}
 
 -- there is one largest of a kind
 pub largest-one : {P : ℕ → Type 0} (count m n : ℕ) → Largest P count m → Largest P count n → m ≡ n
@@ -70,6 +71,10 @@ large-fixed pattern count low high = sym (lanes-of-kind pattern count (large-kin
 -- pattern 31 names all lanes
 pub all-lanes : (count : ℕ) → patternLanes 31 count ≡ count
 all-lanes count = sym (lanes-of-kind 31 count all-kind)
+
+-- every other pattern names none
+pub other-none : (pattern count : ℕ) → 13 < pattern → (pattern ≡ 29 → ⊥) → (pattern ≡ 30 → ⊥) → (pattern ≡ 31 → ⊥) → patternLanes pattern count ≡ 0
+other-none pattern count low four three every = sym (lanes-of-kind pattern count (other-kind pattern low four three every))
 
 -- no pattern names more lanes than there are
 fixed-bounded : (n count : ℕ) → fixedWithin n count ≤ count

@@ -1,5 +1,5 @@
 -- The paper's table of patterns, written out and computed: how many lanes each of the thirty-two names of as many as a vector has, for every lane
--- count that a vector has and for three that are no power of two; and the text of each.
+-- count that a vector has and for three that are no power of two; the text of each, and texts that are of none.
 -- Assumes nothing.
 use Prim.Native.Nat.{ℕ, zero, suc}
 use mathlib.Core.Path.{_≡_, refl}
@@ -8,7 +8,7 @@ use lib.ListN.{replicate}
 use Rattle.parts.specs.Text.{bytes}
 use Rattle.digits.specs.Digits.{digitOf, digitsIn, widthWithin, decimalWidth}
 use Rattle.patterns.specs.Lanes.{doubledWithin, powerWithin, multipleWithin, fixedWithin, kindOf, patternLanes}
-use Rattle.patterns.specs.Text.{patterns, patternText}
+use Rattle.patterns.specs.Text.{patterns, patternText, namedFrom, patternNamed}
 
 -- the numbers from one on, so many of them
 abbrev upFrom : ℕ → ℕ → List ℕ
@@ -78,3 +78,10 @@ pub texts-literal : map patternText (upFrom patterns 0)
     ∷ []
 unfolding patternText kindOf digitOf digitsIn widthWithin decimalWidth
 texts-literal = refl
+
+-- texts that are no pattern's: a named one by its number, no text, a number of lanes that no pattern fixes, capitals, a space, a leading zero
+pub none-named-literal : map patternNamed
+    (bytes "#31" ∷ bytes "#5" ∷ bytes "#32" ∷ bytes "" ∷ bytes "vl9" ∷ bytes "vl512" ∷ bytes "ALL" ∷ bytes "all " ∷ bytes "#014" ∷ bytes "14" ∷ [])
+    ≡ replicate 10 32
+unfolding patternNamed namedFrom patternText kindOf digitOf digitsIn widthWithin decimalWidth
+none-named-literal = refl

@@ -1,6 +1,6 @@
 -- `power_within` meets its contract. The invariant: doubling leads from the power at hand to the largest. The measure is what is left of the count.
 -- Assumes nothing.
-use Prim.Native.Nat.{_-_, suc}
+use Prim.Native.Nat.{_-_}
 use native.Mathlib.Omega.{arith}
 use Rattle.patterns.proofs.Powers.{Leads, leads-first, leads-next, leads-last}
 use Rattle.patterns.proofs.power_within.Statement.{statement}
