@@ -1,3 +1,4 @@
 pub mod Calls
 pub mod Needs
 pub mod Frame
+pub mod Former
