@@ -98,7 +98,7 @@ fn put_word(out: &mut [u8], at: usize, word: u32) -> usize
 }
 
 // The register that a word writes, lent on from the file of its kind.
-fn target<'a>(k: usize, z: &'a [u8], p: &'a [u8], f: Fields) -> &'a [u8]
+fn register_written<'a>(k: usize, z: &'a [u8], p: &'a [u8], f: Fields) -> &'a [u8]
     requires { ⌜ Executable f k (state (now z) (now p)) ⌝ }
     ensures { λ r. ⌜ now r ≡ read k (targetOf f) (state (now (z .entry)) (now (p .entry))) ⌝ }
 {
@@ -195,7 +195,7 @@ pub fn write_line<'a>(
         Decoded::Unknown => refuse(refusal::UNKNOWN),
         Decoded::Undefined => refuse(refusal::UNDEFINED),
         Decoded::Word(fields) => {
-            let register = target(k, z, p, fields);
+            let register = register_written(k, z, p, fields);
             done(put_accepted(out, position, found.word, register))
         },
     }

@@ -114,12 +114,12 @@ executes : (c : tie.After-known-told) → let s = begin (passed (fielded (c .bef
     Executable (c .before .fields .given .0 .0) (s .args .k) (files s)
 executes c = record { lent = known (passed (fielded (c .before))) .files; fields = decoded-in-range _ _ (accepted (c .before)) }
 
-few : (c : tie.After-target) → length (now (c .target .result)) ≤ vectorBytes mostLength
+few : (c : tie.After-register-written) → length (now (c .register-written .result)) ≤ vectorBytes mostLength
 few c =
     let s = begin (passed (fielded (c .before .before))) in
     let k = s .args .k in
     let r = targetOf (c .before .before .fields .given .0 .0) in
-    omega (arith, ap length (c .target .ensures), read-most k r (files s), bytes-few k (r .kind) (legal-most k (executes (c .before) .lent .legal)))
+    omega (arith, ap length (c .register-written .ensures), read-most k r (files s), bytes-few k (r .kind) (legal-most k (executes (c .before) .lent .legal)))
 
 put-accepted-requires : tie.Need-put-accepted-requires
 put-accepted-requires c κs =
@@ -129,7 +129,7 @@ put-accepted-requires c κs =
     let position : s .args .position ≤ mostWords = omega (arith, r .inside) in
     let word = found e .placed-word .result .word in (
       omega (arith, r .room, accepted-room (s .args .position) position),
-      omega (arith, r .room, few (c .before), accepted-most (s .args .position) position word (now (c .before .target .result))),
+      omega (arith, r .room, few (c .before), accepted-most (s .args .position) position word (now (c .before .register-written .result))),
     )
 
 returns-3 : tie.Need-returns-3
@@ -151,11 +151,11 @@ returns-5 c =
     let s = begin e in
     let r = known e in
     let word = found e .placed-word .result .word in
-    written-done _ _ _ (c .done2 .result) _ (acceptedLine (s .args .position) word (now (shown .target .result))) _ (c .done2 .ensures)
+    written-done _ _ _ (c .done2 .result) _ (acceptedLine (s .args .position) word (now (shown .register-written .result))) _ (c .done2 .ensures)
     (decides d ∙ ap numberOf (shown .before .before .fields .given .1))
     (accepted-line (s .args .k) (files s) (now (s .args .program)) (s .args .position) (s .args .number) word (is-word e) (d .before .if2 .left) _
-    (accepted (shown .before .before)) _ (shown .target .ensures))
-    (omega (arith, r .room, few shown, accepted-most (s .args .position) (omega (arith, r .inside)) word (now (shown .target .result))))
+    (accepted (shown .before .before)) _ (shown .register-written .ensures))
+    (omega (arith, r .room, few shown, accepted-most (s .args .position) (omega (arith, r .inside)) word (now (shown .register-written .result))))
     (put .put-accepted .ensures)
 
 pub write-line-spec : {M : Type 1} → statement M
@@ -176,7 +176,7 @@ write-line-spec =
     (λ c. search needs)  -- enum-told-2
     (λ c κs. search needs)  -- refuse-requires-3
     (λ c. search needs)  -- enum-known-fields
-    (λ c κs. executes c)  -- target-requires
+    (λ c κs. executes c)  -- register-written-requires
     put-accepted-requires
     (λ c κs. search needs)  -- done-requires-2
     returns-3
