@@ -18,14 +18,14 @@ use Rattle.machine.specs.declared.Answer.{Answer}
 use Rattle.machine.proofs.Tests.{first-exactly, unless-refused}
 use Rattle.digits.specs.Digits.{digitsIn, widthWithin, decimalWidth}
 use Rattle.digits.proofs.Puts.{put-length}
-use Rattle.entries.specs.Layout.{layoutOf, headerOf, mostJournal, entryBytes, capacityOf, heldOf, freshJournal}
+use Rattle.entries.specs.Layout.{layoutOf, headerOf, isRoom, mostJournal, entryBytes, capacityOf, heldOf, freshJournal}
 use Rattle.entries.proofs.Versions.{header-most}
 use Rattle.entries.proofs.Written.{full-room, capacity-pushed, held-pushed}
 use Rattle.entries.proofs.Closed.{length-closed}
 use Rattle.journal.specs.Left.{Core, Buffers}
-use Rattle.journal.specs.Calls.{freshened, Freshened}
+use Rattle.journal.specs.Calls.{Freshened}
 use Rattle.journal.proofs.Left.{number-left, buffers-left}
-use Rattle.journal.proofs.Accepted.{fresh-number, fresh-done}
+use Rattle.journal.proofs.Accepted.{fresh-accepts, fresh-done}
 use Rattle.steps.specs.Calls.{stepped, Stepped}
 use Rattle.steps.proofs.Accepted.{step-accepted}
 use Rattle.travel.proofs.Undone.{step-room}
@@ -151,7 +151,7 @@ output-in-order n = refl
 pub output-exactly : (n m : ℕ) → refused (outputTests n) ≡ suc m ↔ First (outputTests n) (suc m)
 output-exactly n m = first-exactly (outputTests n) m
 
--- a vector file that is copied to the front of its room
+-- a file that is copied to the front of its room
 pub copied-is : (z room file : List ℕ) (size : ℕ) → size ≡ length z → file ≡ take (length z) z ++ drop (length z) room → take size file ≡ z
 copied-is z room file size e f = rw (e, f, take-length z) (take-at z (drop (length z) room) (length z) refl)
 
@@ -161,5 +161,6 @@ pub fresh-is : (k : ℕ) (journal : List ℕ) (r : ℕ) (after : List ℕ) → i
 unfolding walkJournal
 fresh-is k journal r after legal e made =
     let least : layoutOf walkVersion .header ≤ mostJournal = omega (arith, header-most walkVersion) in
-    let done : freshened k walkVersion journal .number ≡ DONE = fresh-number k walkVersion journal ∙ rw (← e, legal, le-leb _ _ least) in
+    let room : isRoom walkVersion (length journal) ≡ true = rw (← e, le-leb _ _ least) in
+    let done = fresh-accepts k walkVersion journal (record { legal = legal; room = room; versioned = refl }) in
     buffers-left made ∙ fresh-done k walkVersion journal done ∙ rw (← e)

@@ -2,7 +2,7 @@
 -- executed or refused, and at END nothing is printed. As many steps as words are left suffice: more print no further line.
 -- Assumes nothing.
 use mathlib.Core.Path.{_≡_, refl, sym, _∙_, ap, ap₂}
-use mathlib.Core.Bool.{Bool, true, false, cond}
+use mathlib.Core.Bool.{Bool, true, false, cond, not}
 use mathlib.Core.List.{List, [], _++_}
 use Prim.Native.Nat.{ℕ, zero, suc, _+_, _*_, _%_, _≤_, _<_}
 use native.Mathlib.Nat.{zero-add, suc-add}
@@ -11,14 +11,17 @@ use lib.Dec.{eqb, leb}
 use lib.ListN.{length}
 use borrow.Author.Tests.{eq-eqb, ne-eqb, le-leb, lt-leb, leb-true, leb-false}
 use Rattle.machine.specs.Size.{isProgram, wordBytes, mostWords}
-use Rattle.machine.specs.Refusal.{DONE, END, UNKNOWN, UNDEFINED, FULL, refused, unlessRefused}
+use Rattle.machine.specs.Refusal.{DONE, JOURNAL, END, UNKNOWN, UNDEFINED, FULL, refused, unlessRefused}
 use Rattle.machine.proofs.Tests.{first-after}
+use Rattle.registers.specs.Register.{entryNumber}
 use Rattle.registers.specs.State.{Sized}
-use Rattle.words.specs.Decode.{numberOf, wordTests}
+use Rattle.words.specs.Decode.{numberOf, fieldsOf, wordTests}
+use Rattle.words.specs.declared.Decoded.{Decoded}
 use Rattle.cores.specs.Core.{decodedOn}
 use Rattle.programs.specs.Word.{wordAt, wordsOf}
+use Rattle.meaning.specs.Execute.{targetOf}
 use Rattle.meaning.proofs.Effects.{executed-sized}
-use Rattle.entries.specs.Layout.{layoutOf, mostJournal, positionOf, isFull}
+use Rattle.entries.specs.Layout.{layoutOf, mostJournal, positionOf, mayName, isFull}
 use Rattle.entries.specs.Formed.{Formed}
 use Rattle.entries.specs.Tests.{journalTests}
 use Rattle.entries.proofs.Formed.{formed-passes}
@@ -26,7 +29,7 @@ use Rattle.entries.proofs.Versions.{header-most}
 use Rattle.entries.proofs.Written.{position-pushed, formed-pushed}
 use Rattle.entries.proofs.Closed.{position-closed, formed-none}
 use Rattle.journal.specs.Left.{Core, Buffers, Left}
-use Rattle.steps.specs.Calls.{wordNow, fieldsNow, fullTests, stepped}
+use Rattle.steps.specs.Calls.{wordNow, fieldsNow, pastTests, stepped}
 use Rattle.steps.proofs.Accepted.{step-number, step-accepted, step-refused}
 use Rattle.travel.proofs.Undone.{step-room}
 use Rattle.session.specs.declared.Session.{Session}
@@ -47,11 +50,12 @@ pub record Standing (c : Core) (program : List ℕ) (position : ℕ) (b : Buffer
   pub place : positionOf (b .journal) ≡ position
 
 -- the refusals past END are others
-past-end : (a b f : Bool) → cond a UNKNOWN (cond b UNDEFINED (cond f FULL DONE)) ≡ END → ⊥
-past-end true b f e = omega arith
-past-end false true f e = omega arith
-past-end false false true e = omega arith
-past-end false false false e = omega arith
+past-end : (a b n f : Bool) → cond a UNKNOWN (cond b UNDEFINED (cond n JOURNAL (cond f FULL DONE))) ≡ END → ⊥
+past-end true b n f e = omega arith
+past-end false true n f e = omega arith
+past-end false false true f e = omega arith
+past-end false false false true e = omega arith
+past-end false false false false e = omega arith
 
 module _ (c : Core) (program : List ℕ) (position : ℕ) (b : Buffers) (at : Standing c program position b) where
   -- what the step leaves, and its answer
@@ -61,9 +65,12 @@ module _ (c : Core) (program : List ℕ) (position : ℕ) (b : Buffers) (at : St
   abbrev number : ℕ
   number = left .number
 
-  -- the refusal of a step past END
+  -- its word as the core takes it, and the refusal of a step past END
+  abbrev word : Decoded
+  word = decodedOn (c .facts) (wordNow program (b .journal))
+
   abbrev late : ℕ
-  late = refused (wordTests (decodedOn (c .facts) (wordNow program (b .journal))) ++ fullTests (c .k) (b .journal))
+  late = refused (wordTests word ++ pastTests (c .k) (fieldsOf word) (b .journal))
 
   -- a step is refused with END exactly at the program's end
   step-is : number ≡ cond (leb (wordsOf (length program)) position) END late
@@ -79,7 +86,7 @@ module _ (c : Core) (program : List ℕ) (position : ℕ) (b : Buffers) (at : St
 
   before-end : position < wordsOf (length program) → number ≡ END → ⊥
   before-end h e =
-      past-end (eqb (numberOf (decodedOn (c .facts) (wordNow program (b .journal)))) UNKNOWN) (eqb (numberOf (decodedOn (c .facts) (wordNow program (b .journal)))) UNDEFINED)
+      past-end (eqb (numberOf word) UNKNOWN) (eqb (numberOf word) UNDEFINED) (not (mayName (entryNumber (targetOf (fieldsOf word))) (b .journal)))
       (isFull (c .k) (b .journal))
       (rw (lt-leb _ _ h) at (sym step-is ∙ e))
 

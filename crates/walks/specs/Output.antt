@@ -9,7 +9,7 @@ use Rattle.machine.specs.Refusal.{DONE, Test, outTest, refused, unlessRefused}
 use Rattle.machine.specs.declared.Answer.{Answer}
 use Rattle.registers.specs.State.{State, state}
 use Rattle.digits.specs.Put.{Put}
-use Rattle.entries.specs.Layout.{firstVersion, mostJournal, entryBytes, capacityOf, heldOf, freshJournal}
+use Rattle.entries.specs.Layout.{currentVersion, mostJournal, entryBytes, capacityOf, heldOf, freshJournal}
 use Rattle.journal.specs.Left.{Core, coreOf, Buffers, buffersOf}
 use Rattle.steps.specs.Calls.{stepped, Stepped}
 use Rattle.session.specs.declared.Session.{Session}
@@ -30,9 +30,9 @@ linesFrom (suc n) c program position b =
     let l = stepped c program b in
     printed c (l .after .files) program position (l .number) ++ unlessRefused (l .number) (linesFrom n c program (position + 1) (l .after)) []
 
--- the version of a walk's journal
+-- the version of a walk's journal, whose entries name what any word writes
 abbrev pub walkVersion : ℕ
-walkVersion = firstVersion
+walkVersion = currentVersion
 
 -- the fresh journal of a walk, which has all the room that a journal may have
 unfoldable pub walkJournal : ℕ → List ℕ

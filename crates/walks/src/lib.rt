@@ -23,7 +23,7 @@ pub struct Turn {
     pub at: usize,
 }
 
-// The bytes of the longest vector file.
+// The bytes of the longest file, which is one of vectors.
 const MOST_FILE: usize = Length::VECTORS * Length::MOST_BYTES;
 
 // The bytes of a line for each byte of its step's entry, at most; and those of the longest output: of a full journal's lines, and of
@@ -39,14 +39,14 @@ fn step_line(
     k: usize,
     facts: Facts,
     z: &mut [u8],
-    p: &[u8],
+    p: &mut [u8],
     program: &[u8],
     journal: &mut [u8],
     position: usize,
 ) -> Turn
     requires { ⌜ at + mostLine ≤ length (now out) ⌝ }
     ensures { λ r. ⌜ Turned (coreOf k facts) (now (program .entry)) (buffersOf (state (now (z .entry)) (now (p .entry))) (now (journal .entry))) position at (now (out .entry)) r
-        (buffersOf (state (now (z .exit)) (now (p .entry))) (now (journal .exit)))
+        (buffersOf (state (now (z .exit)) (now (p .exit))) (now (journal .exit)))
         (now (out .exit)) ⌝ }
 {
     let number = steps::step(k, facts, z, p, program, journal);
@@ -72,7 +72,7 @@ fn write_lines(
     k: usize,
     facts: Facts,
     z: &mut [u8],
-    p: &[u8],
+    p: &mut [u8],
     program: &[u8],
     journal: &mut [u8],
 ) -> usize
@@ -102,14 +102,14 @@ fn journal_room() -> [u8; entries::MOST]
     [0; entries::MOST]
 }
 
-// Room for a vector file.
+// Room for a file of either kind.
 fn file_room() -> [u8; MOST_FILE]
     ensures { λ r. ⌜ vectorFile mostLength ≡ length r ⌝ }
 {
     [0; MOST_FILE]
 }
 
-// Walks a copy of the vector file with a fresh journal, and writes the lines at the front.
+// Walks copies of both files with a fresh journal of the current version, and writes the lines at the front.
 fn write_walk(out: &mut [u8], k: usize, facts: Facts, z: &[u8], p: &[u8], program: &[u8]) -> usize
     requires { ⌜ Lent k (now z) (now p) (now out) ⌝ }
     ensures { λ r. ⌜ Put (now (out .entry)) 0
@@ -118,10 +118,20 @@ fn write_walk(out: &mut [u8], k: usize, facts: Facts, z: &[u8], p: &[u8], progra
         r ⌝ }
 {
     let mut journal = journal_room();
-    journal::fresh(k, &mut journal);
-    let mut file = file_room();
-    let size = bytes::copy(z, &mut file);
-    write_lines(out, k, facts, &mut file[..size], p, program, &mut journal)
+    journal::fresh(k, entries::CURRENT_VERSION, &mut journal);
+    let mut vectors = file_room();
+    let vectors_end = bytes::copy(z, &mut vectors);
+    let mut predicates = file_room();
+    let predicates_end = bytes::copy(p, &mut predicates);
+    write_lines(
+        out,
+        k,
+        facts,
+        &mut vectors[..vectors_end],
+        &mut predicates[..predicates_end],
+        program,
+        &mut journal,
+    )
 }
 
 // Walks a session on a core with its facts, and writes its lines at the front.

@@ -20,10 +20,10 @@ use Rattle.walks.proofs.step_line.Tie as tie
 
 -- the step, and where the function started
 abbrev taken : tie.After-write-line → tie.After-step
-taken c = c .before .before .before .before .before .before .before
+taken c = c .before .before .before .before .before .before .before .before .before .before
 
 abbrev start : tie.After-write-line → tie.Start
-start c = taken c .before .before .before .before .before .before .before .before
+start c = taken c .before .before .before .before .before .before .before .before .before
 
 -- the core that it runs on
 abbrev core : tie.After-write-line → Core
@@ -31,7 +31,7 @@ core c = coreOf (start c .args .k) (start c .args .facts)
 
 -- the files that the step left
 abbrev left : tie.After-write-line → State
-left c = state (taken c .step .last .1 .1 .0) (now (start c .args .p))
+left c = state (taken c .step .last .1 .1 .0) (taken c .step .last .1 .1 .1 .0)
 
 -- what is printed is not longer than the longest line, and is written at the place
 few : (c : tie.After-write-line) → let a = start c .args in length (printed (core c) (left c) (now (a .program)) (a .position) (taken c .step .result)) ≤ mostLine
@@ -50,8 +50,8 @@ shown c =
     (omega (arith, mid-len (a .at) (length out) out (le-refl _)))
     (c .write-line .ensures))
 
-add-t23 : tie.Need-add-t23
-add-t23 c = omega (arith, shown (c .before .before) .after, few (c .before .before))
+add-t27 : tie.Need-add-t27
+add-t27 c = omega (arith, shown (c .before .before) .after, few (c .before .before))
 
 returns : tie.Need-returns
 returns c = record { stepped = taken (c .before .before) .step .ensures; shown = shown (c .before .before) }
@@ -66,8 +66,9 @@ step-line-spec =
     (λ c. search needs)  -- part-write-line-end
     (λ c. search needs)  -- cast-write-line
     (λ c κs. search needs)  -- write-line-requires
-    add-t23
+    add-t27
     (λ c. search needs)  -- same-length
     (λ c. search needs)  -- same-length-2
     (λ c. search needs)  -- same-length-3
+    (λ c. search needs)  -- same-length-4
     returns)
