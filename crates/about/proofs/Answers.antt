@@ -10,10 +10,10 @@ use borrow.Author.Tests.{lt-leb}
 use Rattle.machine.specs.Refusal.{First, inOrder}
 use Rattle.machine.proofs.Tests.{first-exactly, one-result}
 use Rattle.rows.specs.Table.{rows, formOf, familyOf}
-use Rattle.words.specs.Field.{governingDigits, secondDigits}
+use Rattle.words.specs.Field.{sourceDigits, governingDigits, secondDigits, patternDigits}
 use Rattle.cores.specs.Need.{needOf}
 use Rattle.about.specs.declared.About.{About}
-use Rattle.about.specs.About.{needByte, readsDestination, rowTests, rowRefused, rowTold, aboutAnswer}
+use Rattle.about.specs.About.{needByte, readsDestination, writesPredicate, rowTests, rowRefused, rowTold, aboutAnswer}
 
 pub row-in-order : (row : ℕ) → inOrder (rowTests row) ≡ true
 row-in-order row = refl
@@ -45,6 +45,18 @@ module _ (row : ℕ) (there : row < rows) where
   pub need-told : aboutAnswer row .need ≡ needByte (needOf row)
   unfolding rowTold
   need-told = ap (λ (a : About). a .need) row-is-told
+
+  pub source-told : aboutAnswer row .«has_n» ≡ ltb 0 (sourceDigits (familyOf row))
+  unfolding rowTold
+  source-told = ap (λ (a : About). a .«has_n») row-is-told
+
+  pub pattern-told : aboutAnswer row .«has_pattern» ≡ ltb 0 (patternDigits (familyOf row))
+  unfolding rowTold
+  pattern-told = ap (λ (a : About). a .«has_pattern») row-is-told
+
+  pub writes-told : aboutAnswer row .«writes_predicate» ≡ writesPredicate (familyOf row)
+  unfolding rowTold
+  writes-told = ap (λ (a : About). a .«writes_predicate») row-is-told
 
 -- two results of the call are the same
 pub row-determined : (row : ℕ) (r s : About) → r ≡ aboutAnswer row → s ≡ aboutAnswer row → r ≡ s

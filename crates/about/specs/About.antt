@@ -1,5 +1,5 @@
 -- What the call for a row answers, for every number: the sign of its elements, which fields its words have, whether they read their destination, what
--- they need of a core, and the bytes of their lanes.
+-- they need of a core, the bytes of their lanes, and whether they write a predicate.
 use Prim.Native.Nat.{ℕ, _+_, _^_, _<_}
 use mathlib.Core.Path.{_≡_}
 use mathlib.Core.Logic.{_⊎_}
@@ -10,9 +10,9 @@ use Rattle.machine.specs.Refusal.{DONE, Test, rangeTest, refused, unlessRefused
 use Rattle.facts.specs.Facts.{sveBit, sve2Bit, sve2p1Bit, smeBit, sme2p1Bit, hasBit}
 use Rattle.rows.specs.Table.{rows, formOf, familyOf}
 use Rattle.rows.specs.declared.Family.{Family}
-use Rattle.rows.specs.declared.Family.the-variants.{Low, Wide}
+use Rattle.rows.specs.declared.Family.the-variants.{Low, Wide, Made}
 use Rattle.rows.specs.declared.WideFamily.the-variants.{Pairwise, Widening}
-use Rattle.words.specs.Field.{governingDigits, secondDigits, qDigits}
+use Rattle.words.specs.Field.{sourceDigits, governingDigits, secondDigits, qDigits, patternDigits}
 use Rattle.cores.specs.Need.{needOf}
 use Rattle.cores.specs.declared.Need.{Need}
 use Rattle.cores.specs.declared.Need.the-variants.{Nothing, SveOrSme, Sve2OrSme, Sve2p1OrSme2p1}
@@ -32,6 +32,13 @@ abbrev pub readsDestination : Family → Bool
 readsDestination (Low low) = false
 readsDestination (Wide Pairwise) = true
 readsDestination (Wide Widening) = false
+readsDestination (Made made) = false
+
+-- the words that write a predicate and no vector
+abbrev pub writesPredicate : Family → Bool
+writesPredicate (Low low) = false
+writesPredicate (Wide wide) = false
+writesPredicate (Made made) = true
 
 -- the test of a row's number, and its refusal: RANGE or DONE
 abbrev pub rowTests : ℕ → List Test
@@ -54,6 +61,9 @@ rowTold row =
       «n_bytes» = bytesBySize (formOf row) First;
       «m_bytes» = bytesBySize (formOf row) Second;
       «d_bytes» = bytesBySize (formOf row) Destination;
+      «has_n» = ltb 0 (sourceDigits (familyOf row));
+      «has_pattern» = ltb 0 (patternDigits (familyOf row));
+      «writes_predicate» = writesPredicate (familyOf row);
     }
 
 -- a refusal, and nothing told
@@ -73,6 +83,9 @@ noAbout n =
       «n_bytes» = noneBySize;
       «m_bytes» = noneBySize;
       «d_bytes» = noneBySize;
+      «has_n» = false;
+      «has_pattern» = false;
+      «writes_predicate» = false;
     }
 
 -- the row, or its refusal with nothing

@@ -5,7 +5,7 @@ use mathlib.Core.List.{List, [], _∷_}
 use Rattle.lanes.specs.Lane.{widthOf}
 use Rattle.rows.specs.declared.Form.{Form}
 use Rattle.rows.specs.declared.Family.{Family}
-use Rattle.rows.specs.declared.Family.the-variants.{Low, Wide}
+use Rattle.rows.specs.declared.Family.the-variants.{Low, Wide, Made}
 use Rattle.rows.specs.declared.LowFamily.{LowFamily}
 use Rattle.rows.specs.declared.LowFamily.the-variants.{Reduction, Segment, Long}
 use Rattle.rows.specs.declared.WideFamily.{WideFamily}
@@ -31,9 +31,16 @@ wideBytes Widening wide First w = cond wide w (w / 2)
 wideBytes Widening wide Second w = w / 2
 wideBytes Widening wide Destination w = w
 
+-- of a word that makes a predicate: it has no source, and a bit of what it makes governs a lane of w bytes
+abbrev pub madeBytes : Operand → ℕ → ℕ
+madeBytes First w = 0
+madeBytes Second w = 0
+madeBytes Destination w = w
+
 abbrev pub familyBytes : Family → Bool → Operand → ℕ → ℕ
 familyBytes (Low low) wide operand w = lowBytes low operand w
 familyBytes (Wide family) wide operand w = wideBytes family wide operand w
+familyBytes (Made made) wide operand w = madeBytes operand w
 
 -- whether a form allows a size, with some Q
 abbrev pub allowsSome : Form → ℕ → Bool

@@ -1,5 +1,5 @@
-// What a row is: the sign of its elements, which fields its words have, whether they read their destination, what they need of a core, and the
-// bytes of the lanes that they read and write, by their size.
+// What a row is: the sign of its elements, which fields its words have, whether they read their destination, what they need of a core, the
+// bytes of the lanes that they read and write, by their size, and whether what they write is a predicate.
 use cores::Need;
 use facts::bit;
 use machine::refusal;
@@ -11,8 +11,8 @@ use rows::WideFamily;
 ghost use mathlib.Core.Path.{_≡_};
 ghost use Prim.Native.Nat.{_≤_, _<_};
 ghost use Rattle.machine.specs.Size.{sizes};
-ghost use Rattle.about.specs.Widths.{lowBytes, wideBytes, familyBytes, allowsSome, bytesAt, bytesBySize};
-ghost use Rattle.about.specs.About.{needByte, readsDestination, noAbout, aboutAnswer};
+ghost use Rattle.about.specs.Widths.{lowBytes, wideBytes, madeBytes, familyBytes, allowsSome, bytesAt, bytesBySize};
+ghost use Rattle.about.specs.About.{needByte, readsDestination, writesPredicate, noAbout, aboutAnswer};
 
 // What is told of a row; with a refusal nothing.
 pub struct About {
@@ -26,6 +26,9 @@ pub struct About {
     pub n_bytes: [u64; 4],
     pub m_bytes: [u64; 4],
     pub d_bytes: [u64; 4],
+    pub has_n: bool,
+    pub has_pattern: bool,
+    pub writes_predicate: bool,
 }
 
 // What a word reads lanes of, or writes.
@@ -57,6 +60,18 @@ fn reads_destination(family: Family) -> bool
             WideFamily::Pairwise => true,
             WideFamily::Widening => false,
         },
+        Family::Made(_) => false,
+    }
+}
+
+// Whether a family's words write a predicate.
+fn writes_predicate(family: Family) -> bool
+    ensures { λ r. ⌜ r ≡ writesPredicate family ⌝ }
+{
+    match family {
+        Family::Low(_) => false,
+        Family::Wide(_) => false,
+        Family::Made(_) => true,
     }
 }
 
@@ -94,6 +109,17 @@ fn wide_bytes(family: WideFamily, wide: bool, operand: Operand, w: usize) -> usi
     }
 }
 
+// The bytes of an operand's lanes, of the families that make a predicate, whose bits govern lanes of w bytes.
+fn made_bytes(operand: Operand, w: usize) -> usize
+    ensures { λ r. ⌜ r ≡ madeBytes operand w ⌝ }
+{
+    match operand {
+        Operand::First => 0,
+        Operand::Second => 0,
+        Operand::Destination => w,
+    }
+}
+
 // The bytes of an operand's lanes, with elements of w bytes.
 fn family_bytes(family: Family, wide: bool, operand: Operand, w: usize) -> usize
     requires { ⌜ w ≤ 8 ⌝ }
@@ -102,6 +128,7 @@ fn family_bytes(family: Family, wide: bool, operand: Operand, w: usize) -> usize
     match family {
         Family::Low(low) => low_bytes(low, operand, w),
         Family::Wide(writes) => wide_bytes(writes, wide, operand, w),
+        Family::Made(_) => made_bytes(operand, w),
     }
 }
 
@@ -153,6 +180,9 @@ fn no_about(number: u8) -> About
         n_bytes: [0; 4],
         m_bytes: [0; 4],
         d_bytes: [0; 4],
+        has_n: false,
+        has_pattern: false,
+        writes_predicate: false,
     }
 }
 
@@ -176,5 +206,8 @@ pub fn read_row(row: usize) -> About
         n_bytes: bytes_by_size(form, Operand::First),
         m_bytes: bytes_by_size(form, Operand::Second),
         d_bytes: bytes_by_size(form, Operand::Destination),
+        has_n: 0 < words::source_digits(family),
+        has_pattern: 0 < words::pattern_digits(family),
+        writes_predicate: writes_predicate(family),
     }
 }

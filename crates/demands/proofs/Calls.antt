@@ -13,7 +13,7 @@ use Rattle.lanes.specs.Lane.{widthOf, lane, fromLanes}
 use Rattle.lanes.specs.Integer.{residue}
 use Rattle.lanes.specs.Sum.{each, activeElement, total}
 use Rattle.rows.specs.Table.{formOf, familyOf}
-use Rattle.words.proofs.Decoding.{governing-below}
+use Rattle.words.proofs.Decoding.{governing-below, size-in, source-in}
 use Rattle.words.specs.declared.Fields.{Fields}
 use Rattle.rows.specs.declared.Family.the-variants.{Low}
 use Rattle.rows.specs.declared.LowFamily.the-variants.{Reduction, Segment}
@@ -40,7 +40,7 @@ module _ (f : Fields) (k : ℕ) (s : State) (x : Executable f k s) where
 
   -- the calls for the word's source, predicate and size are not refused
   done : panelRefused k (s .z) (s .p) (f .n) (f .g) (f .size) ≡ DONE
-  done = panel-done k (s .z) (s .p) (f .n) (f .g) (f .size) (x .lent) (x .fields .n) (governing-below (familyOf (f .row)) (x .fields .g)) (x .fields .size)
+  done = panel-done k (s .z) (s .p) (f .n) (f .g) (f .size) (x .lent) (source-in (x .fields)) (governing-below (familyOf (f .row)) (x .fields .g)) (size-in (x .fields))
 
   -- the subtotal of all lanes is what saddv or uaddv leaves at that size and sign
   pub subtotal-is-the-sum : familyOf (f .row) ≡ Low Reduction

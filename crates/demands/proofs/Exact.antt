@@ -23,7 +23,7 @@ use Rattle.lanes.proofs.Residues.{residue-lt}
 use Rattle.lanes.proofs.Sums.{Within, AllWithin, within-counted, within-more, within-signed, sum-is-exact, length-each}
 use Rattle.lanes.proofs.Written.{read-lane}
 use Rattle.rows.specs.Table.{formOf, familyOf}
-use Rattle.words.proofs.Decoding.{q-below}
+use Rattle.words.proofs.Decoding.{q-below, size-in}
 use Rattle.words.specs.declared.Fields.{Fields}
 use Rattle.rows.specs.declared.Parameters.{Parameters}
 use Rattle.rows.specs.declared.Family.{Family}
@@ -31,7 +31,7 @@ use Rattle.rows.specs.declared.Family.the-variants.{Low, Wide}
 use Rattle.rows.specs.declared.LowFamily.the-variants.{Reduction, Segment, Long}
 use Rattle.rows.specs.declared.WideFamily.the-variants.{Pairwise, Widening}
 use Rattle.sums.proofs.Widths.{width-legal}
-use Rattle.meaning.specs.Terms.{Operands, Source, Operand1, Operand2, Old, operandOf, Term, subtractedWhere, added, sumOf, governedTerm, freeTerm, dataBytes, halfTerm, firstTerm}
+use Rattle.meaning.specs.Terms.{Operands, Source, Operand2, operandOf, Term, subtractedWhere, added, sumOf, governedTerm, freeTerm, dataBytes, halfTerm, firstTerm}
 use Rattle.meaning.specs.Meaning.{familyTerms, widthAfter}
 use Rattle.meaning.specs.Execute.{operandsOf, maskOf, feeds, integerAfter, widthFor, lanesFor, writtenFor, destinationAfter}
 use Rattle.meaning.specs.Needs.{Executable}
@@ -165,4 +165,4 @@ module _ (f : Fields) (k : ℕ) (s : State) where
       ap (integer (answerSigned (formOf (f .row) .parameters)) (bitsOf (widthFor f))) (answer-modulo e h)
       ∙ few-exact (operandsOf f k s) (operand-of-bytes f k s b) (answerSigned (formOf (f .row) .parameters)) (bitsOf (widthFor f)) (feeds f k (maskOf f k s) e)
       (few-terms (familyOf (f .row)) (formOf (f .row) .parameters) k (f .q) (f .size) (maskOf f k s) e
-      (k-most f k s x) (q-below (familyOf (f .row)) (x .fields .q)) (x .fields .size) ex)
+      (k-most f k s x) (q-below (familyOf (f .row)) (x .fields .q)) (size-in (x .fields)) ex)

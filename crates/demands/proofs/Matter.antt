@@ -22,6 +22,7 @@ use Rattle.lanes.proofs.Sums.{same-counted}
 use Rattle.lanes.proofs.Written.{same-lanes}
 use Rattle.rows.specs.Table.{formOf, familyOf}
 use Rattle.words.specs.declared.Fields.{Fields}
+use Rattle.words.proofs.Decoding.{size-in}
 use Rattle.rows.specs.declared.Parameters.{Parameters}
 use Rattle.rows.specs.declared.Family.{Family}
 use Rattle.rows.specs.declared.Family.the-variants.{Low, Wide}
@@ -131,8 +132,8 @@ only-active-matters f k s s′ x x′ g agree old =
         (f .q)
         e
         g
-        (width-legal (f .size) (x .fields .size) .2)
-        (whole k (f .size) (x .fields .size))
+        (width-legal (f .size) (size-in (x .fields)) .2)
+        (whole k (f .size) (size-in (x .fields)))
         (wide-halves f k s x)
         (λ is. rw (old-is-target f) (old is))
         h

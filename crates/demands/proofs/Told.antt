@@ -12,7 +12,7 @@ use lib.Seq.{take-take}
 use borrow.Author.Tests.{not-true, leb-true}
 use Rattle.parts.specs.Part.{part}
 use Rattle.parts.proofs.Same.{both-left}
-use Rattle.machine.specs.Size.{vectors, predicates, sizes, vectorBytes}
+use Rattle.machine.specs.Size.{sizes, vectorBytes}
 use Rattle.machine.specs.Refusal.{DONE}
 use Rattle.machine.proofs.Sizes.{of-four}
 use Rattle.registers.specs.Register.{Register, IsRegister, vectorOf, predicateOf, numbered, registerBytes}
@@ -35,7 +35,7 @@ use Rattle.rows.specs.declared.WideFamily.the-variants.{Pairwise, Widening}
 use Rattle.words.specs.Sizes.{allows, allowsFamily}
 use Rattle.words.specs.declared.Fields.{Fields}
 use Rattle.words.specs.declared.Decoded.the-variants.{Word}
-use Rattle.words.proofs.Decoding.{governing-below, q-below}
+use Rattle.words.proofs.Decoding.{governing-below, q-below, size-in}
 use Rattle.words.proofs.Encoding.{decoded-in-range}
 use Rattle.facts.specs.declared.Facts.{Facts}
 use Rattle.cores.specs.Need.{either}
@@ -51,8 +51,8 @@ use Rattle.about.specs.About.{readsDestination, rowTold, aboutAnswer}
 use Rattle.about.proofs.Answers.{row-is-told, sign-told, governing-told, second-told, reads-told}
 use Rattle.about.specs.declared.About.{About}
 use Rattle.about.specs.declared.Operand.{Operand}
-use Rattle.about.specs.declared.Operand.the-variants.{First, Second, Destination}
-use Rattle.meaning.specs.Terms.{Source, Operand1, Operand2, Old, Term, elementOf, operandOf}
+use Rattle.about.specs.declared.Operand.the-variants.{Destination}
+use Rattle.meaning.specs.Terms.{Source, Operand1, Operand2, Old, Term, operandOf}
 use Rattle.meaning.specs.Meaning.{familyTerms, widthAfter, lanesAfter}
 use Rattle.meaning.specs.Execute.{sourceOf, governingOf, operandsOf, maskOf, feeds, widthFor, lanesFor}
 use Rattle.meaning.specs.Needs.{Executable}
@@ -145,7 +145,7 @@ module _ (f : Fields) (k : ℕ) (s : State) (x : Executable f k s) where
       → bytesTold (aboutAnswer (f .row)) source (f .size) ≡ familyBytes (familyOf (f .row)) (formOf (f .row) .parameters .wide) (operandFor source) (widthOf (f .size))
   told-bytes source =
       bytes-of (f .row) (x .fields .row) source (f .size)
-      ∙ by-size (formOf (f .row)) (operandFor source) (f .size) (x .fields .size)
+      ∙ by-size (formOf (f .row)) (operandFor source) (f .size) (size-in (x .fields))
       ∙ rw (some-allows (formOf (f .row)) (f .q) (f .size) (q-below (familyOf (f .row)) (x .fields .q)) (x .fields .allowed))
 
   -- the lanes that a word writes have the bytes that are told of its row
@@ -207,7 +207,7 @@ module _ (f : Fields) (k : ℕ) (s : State) (x : Executable f k s) where
         shape .counts
         ∙ same-counts (t .source) (isGoverned (familyOf (f .row))) _ _ (λ governed.
         ap (active (widthOf (f .size)) n) mask-asked
-        ∙ sym (ap (λ (l : Lane). l .active) (is-told (t .source) (f .size) (t .signed) n (x .fields .size) (shape .governed governed))))
+        ∙ sym (ap (λ (l : Lane). l .active) (is-told (t .source) (f .size) (t .signed) n (size-in (x .fields)) (shape .governed governed))))
         ∙ ap₂ (λ (g reads : Bool). countsBy (t .source) g (toldOf f k s (t .source) (f .size) (t .signed) (governedLane reads e t) .active))
         (sym (governing-told (f .row) (x .fields .row)))
         (sym (reads-told (f .row) (x .fields .row)))
@@ -233,7 +233,7 @@ module _ (f : Fields) (k : ℕ) (s : State) (x : Executable f k s) where
     fed-as-told lies =
         each-follows (Shaped (familyOf (f .row)) (formOf (f .row) .parameters) (f .size) k (maskOf f k s) e) (TermTold f k s e) term-told
         (feeds f k (maskOf f k s) e)
-        (shaped (familyOf (f .row)) (formOf (f .row) .parameters) (f .size) (f .q) k (maskOf f k s) e segment-sign (x .fields .size)
+        (shaped (familyOf (f .row)) (formOf (f .row) .parameters) (f .size) (f .q) k (maskOf f k s) e segment-sign (size-in (x .fields))
         (q-below (familyOf (f .row)) (x .fields .q))
         (k-least f k s x)
         (x .fields .allowed)

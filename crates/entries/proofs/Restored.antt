@@ -2,7 +2,7 @@
 -- the number and the bytes as they stand.
 -- Assumes nothing.
 use Prim.Native.Nat.{ℕ, _-_, _<_}
-use mathlib.Core.Path.{_≡_, sym, _∙_, ap, ap₂}
+use mathlib.Core.Path.{_≡_, refl, _∙_, ap, ap₂}
 use mathlib.Core.List.{List}
 use native.Mathlib.Omega.{arith}
 use native.Mathlib.Nat.{min-eq-left}
@@ -10,18 +10,22 @@ use lib.ListN.{length, take, replicate, length-take}
 use lib.Seq.{take-at, take-all}
 use Rattle.machine.specs.Size.{vectors, vectorBytes}
 use Rattle.registers.specs.declared.Kind.{Kind}
-use Rattle.registers.specs.Register.{Register, vector, IsRegister, registerBytes, entryNumber, numbered, vectorOf, withVector, padded}
-use Rattle.registers.specs.State.{State, state, Sized, read, write}
+use Rattle.registers.specs.Register.{Register, vector, IsRegister, registerBytes, vectorOf, withVector}
+use Rattle.registers.specs.State.{State, state, Sized, contents, read, write}
 use Rattle.registers.proofs.Numbers.{numbered-number, vector-number, vector-numbered}
 use Rattle.registers.proofs.Places.{bytes-most}
 use Rattle.registers.proofs.Padded.{length-padded, padded-full}
 use Rattle.registers.proofs.States.{length-read, write-again, write-read}
 use Rattle.entries.specs.Layout.{Entry}
-use Rattle.entries.specs.Restored.{entryOf, restored}
+use Rattle.entries.specs.Restored.{entryOf, registerEntry, restored}
 
 -- an entry has a whole register of any kind to put back
 pub put-back-whole : (k : ℕ) (kind : Kind) (old : List ℕ) → length old ≡ vectorBytes k → length (take (registerBytes k kind) old) ≡ registerBytes k kind
 put-back-whole k kind old whole = length-take (registerBytes k kind) old ∙ min-eq-left (omega (arith, whole, bytes-most k kind))
+
+-- made from the file of the register's kind it is the register's entry in the state
+pub entry-from-file : (k : ℕ) (r : Register) (s : State) → registerEntry k (r .kind) (r .number) (contents (r .kind) s) ≡ entryOf k r s
+entry-from-file k r s = refl
 
 module _ (k : ℕ) (r : Register) (s : State) (sized : Sized k s) (is : IsRegister r) where
   size : length (read k r s) ≡ registerBytes k (r .kind)

@@ -20,7 +20,7 @@ use Rattle.parts.proofs.Parts.{part-part, length-part, length-with, take-with, 
 use Rattle.parts.proofs.Parts.{with-again, with-comm, with-same}
 use Rattle.machine.specs.Size.{vectorBytes, mostWords}
 use Rattle.entries.specs.Layout.{countAt, countBytes, heading, isVersion, versionOf, headerOf, greatestOf, entryBytes, entryAt, capacityOf, heldOf, positionOf, Entry}
-use Rattle.entries.specs.Layout.{encodedEntry, entryIn, firstEntries, lastEntry, entriesOf, isFull, withCount, withEntry, pushed, popped}
+use Rattle.entries.specs.Layout.{encodedEntry, entryFrom, entryIn, firstEntries, lastEntry, entriesOf, isFull, withCount, withEntry, pushed, popped}
 use Rattle.entries.specs.Formed.{Formed}
 use Rattle.entries.proofs.Places.{count-read}
 use Rattle.entries.proofs.Slots.{Alike, version-alike, header-alike, greatest-alike, capacity-alike, entry-alike, entry-past, entry-inside, entry-apart}
@@ -28,10 +28,6 @@ use Rattle.entries.proofs.Slots.{Alike, version-alike, header-alike, gr
 -- an entry of two parts
 entry-is : (d c : ℕ) (a b : List ℕ) → d ≡ c → a ≡ b → _≡_ {A = Entry} (record { number = d; old = a }) (record { number = c; old = b })
 entry-is d c a b p q = ap₂ (λ (n : ℕ) (l : List ℕ). record { number = n; old = l }) p q
-
--- the entry that starts at a place
-abbrev entryFrom : ℕ → ℕ → List ℕ → Entry
-entryFrom k at l = record { number = getD l at 0; old = part (at + 1) (vectorBytes k) l }
 
 -- a journal with an entry's bytes at a place, and with a count
 abbrev put : ℕ → ℕ → ℕ → List ℕ → List ℕ → List ℕ

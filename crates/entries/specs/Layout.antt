@@ -1,12 +1,12 @@
 -- The journal's bytes, by the version that they name: mark, version, k and count, then entries, each a register's number and its old bytes.
 use Prim.Native.Nat.{ℕ, zero, suc, _+_, _*_, _-_, _/_}
-use mathlib.Core.Bool.{Bool, true}
+use mathlib.Core.Bool.{Bool, true, cond}
 use mathlib.Core.List.{List, [], _∷_, _++_}
-use lib.Dec.{leb}
+use lib.Dec.{eqb, leb}
 use lib.ListN.{length, getD, take, replicate}
 use Rattle.parts.specs.Part.{both, part, withPart, sameBytes}
 use Rattle.parts.specs.Number.{bytesOf, numberAt, withNumber}
-use Rattle.machine.specs.Size.{vectors, isAmong, mostWords, vectorBytes}
+use Rattle.machine.specs.Size.{vectors, predicates, isAmong, mostWords, vectorBytes}
 use Rattle.registers.specs.Register.{padded}
 use Rattle.entries.specs.declared.Layout.{Layout}
 
@@ -28,19 +28,27 @@ countBytes = 2
 abbrev pub heading : ℕ → ℕ → List ℕ
 heading version k = 76 ∷ 78 ∷ 74 ∷ [] ++ bytesOf journalVersionBytes version ++ k ∷ []
 
--- the versions that are defined: one
-abbrev pub firstVersion : ℕ
-firstVersion = 1
+-- the versions that are defined: the former, whose entries name vectors, and the current, whose entries name predicates too
+abbrev pub formerVersion : ℕ
+formerVersion = 1
+
+abbrev pub currentVersion : ℕ
+currentVersion = 2
 
 abbrev pub journalVersions : List ℕ
-journalVersions = firstVersion ∷ []
+journalVersions = formerVersion ∷ currentVersion ∷ []
 
 abbrev pub isVersion : ℕ → Bool
 isVersion version = isAmong version journalVersions
 
--- a version's bytes before the entries, and its greatest number of an entry
+-- a version's bytes before the entries, and its greatest number of an entry: a line for each version, the last also for what is none
+abbrev pub laidOut : ℕ → ℕ → Layout
+laidOut header greatest = record { header = header; greatest = greatest }
+
 unfoldable pub layoutOf : ℕ → Layout
-layoutOf version = record { header = countAt + countBytes; greatest = vectors - 1 }
+layoutOf version =
+    cond (eqb version formerVersion) (laidOut (countAt + countBytes) (vectors - 1))
+    (laidOut (countAt + countBytes) (vectors + predicates - 1))
 
 -- the version that a journal names, and what that version has
 abbrev pub versionOf : List ℕ → ℕ
@@ -102,13 +110,12 @@ slotOf k journal i = i
 abbrev pub entryAt : ℕ → List ℕ → ℕ → ℕ
 entryAt k journal i = slotAt (headerOf journal) k (slotOf k journal i)
 
--- the held entry i, the first n, the last, and all
+-- the entry that starts at a place; the held entry i, the first n, the last, and all
+abbrev pub entryFrom : ℕ → ℕ → List ℕ → Entry
+entryFrom k at journal = record { number = getD journal at 0; old = part (at + 1) (vectorBytes k) journal }
+
 abbrev pub entryIn : ℕ → List ℕ → ℕ → Entry
-entryIn k journal i =
-    record {
-      number = getD journal (entryAt k journal i) 0;
-      old = part (entryAt k journal i + 1) (vectorBytes k) journal;
-    }
+entryIn k journal i = entryFrom k (entryAt k journal i) journal
 
 abbrev pub firstEntries : ℕ → List ℕ → ℕ → List Entry
 firstEntries k journal zero = []
@@ -123,6 +130,10 @@ entriesOf k journal = firstEntries k journal (heldOf journal)
 -- no further entry fits
 unfoldable pub isFull : ℕ → List ℕ → Bool
 isFull k journal = leb (capacityOf k journal) (heldOf journal)
+
+-- an entry of a journal may have a number: it is not above the greatest
+abbrev pub mayName : ℕ → List ℕ → Bool
+mayName number journal = leb number (greatestOf journal)
 
 -- every entry has a number that is not above the greatest
 abbrev pub areNamed : ℕ → List Entry → Bool

@@ -6,9 +6,9 @@ ghost use lib.ListN.{length, take};
 ghost use Rattle.parts.specs.Part.{sameBytes};
 ghost use Rattle.machine.specs.Size.{mostLength};
 ghost use Rattle.machine.specs.Refusal.{refused};
-ghost use Rattle.entries.specs.Layout.{heading as headingOf, isVersion, layoutOf, versionOf, headerOf, greatestOf, entryBytes, capacityFor};
-ghost use Rattle.entries.specs.Layout.{countAt, countBytes, slotAt, slotOf, entryAt, heldOf, positionOf, isFull, isJournal, areNamed, firstEntries};
-ghost use Rattle.entries.specs.Tests.{roomTests, journalTests};
+ghost use Rattle.entries.specs.Layout.{heading as headingOf, isVersion, laidOut, layoutOf, versionOf, headerOf, greatestOf, entryBytes, capacityFor};
+ghost use Rattle.entries.specs.Layout.{countAt, countBytes, slotAt, slotOf, entryAt, heldOf, positionOf, isFull, isJournal, mayName, areNamed, firstEntries};
+ghost use Rattle.entries.specs.Tests.{roomTests, versionTests, journalTests};
 ghost use Rattle.entries.specs.Needs.{SameLayout, Headed, EntryInside, Fits};
 use machine::Length;
 use machine::refusal;
@@ -19,10 +19,12 @@ pub struct Layout {
     pub greatest: usize,
 }
 
-// The mark, the first version, and where the version stands and its bytes.
+// The mark, the versions that are defined, and where the version stands and its bytes.
 pub const MARK: [u8; 3] = [76, 78, 74];
 
-pub const FIRST_VERSION: usize = 1;
+pub const FORMER_VERSION: usize = 1;
+
+pub const CURRENT_VERSION: usize = 2;
 
 pub const VERSION_AT: usize = 3;
 
@@ -37,6 +39,11 @@ pub const LEAST_HEADER: usize = COUNT_AT + COUNT;
 
 pub const MOST: usize = 65536;
 
+// The greatest number of an entry that names a vector, and of one that names a register of either kind.
+const LAST_VECTOR: usize = Length::VECTORS - 1;
+
+const LAST_REGISTER: usize = Length::VECTORS + Length::PREDICATES - 1;
+
 // The version that a journal names.
 pub fn version_of(journal: &[u8]) -> usize
     requires { ⌜ countAt + countBytes ≤ length (now journal) ⌝ }
@@ -45,20 +52,42 @@ pub fn version_of(journal: &[u8]) -> usize
     parts::number_at(journal, VERSION_AT, VERSION_BYTES) as usize
 }
 
-// Whether a version is defined: one is.
+// Whether a version is defined.
 pub fn is_version(version: usize) -> bool
     ensures { λ r. ⌜ r ≡ isVersion version ⌝ }
 {
-    version == FIRST_VERSION
+    match version {
+        FORMER_VERSION => true,
+        CURRENT_VERSION => true,
+        _ => false,
+    }
 }
 
-// The layout of a version.
+// The refusal of a version that a fresh journal is to have: JOURNAL or DONE.
+pub fn check_version(version: usize) -> u8
+    ensures { λ r. ⌜ r ≡ refused (versionTests version) ⌝ }
+{
+    if is_version(version) {
+        refusal::DONE
+    } else {
+        refusal::JOURNAL
+    }
+}
+
+// The layout of so many bytes before the entries and of a greatest number.
+fn laid_out(header: usize, greatest: usize) -> Layout
+    ensures { λ r. ⌜ r ≡ laidOut header greatest ⌝ }
+{
+    Layout { header, greatest }
+}
+
+// The layout of a version, a line for each.
 pub fn layout_of(version: usize) -> Layout
     ensures { λ r. ⌜ SameLayout r (layoutOf version) ⌝ }
 {
-    Layout {
-        header: COUNT_AT + COUNT,
-        greatest: Length::VECTORS - 1,
+    match version {
+        FORMER_VERSION => laid_out(LEAST_HEADER, LAST_VECTOR),
+        _ => laid_out(LEAST_HEADER, LAST_REGISTER),
     }
 }
 
@@ -159,6 +188,15 @@ pub fn is_full(k: usize, journal: &[u8]) -> bool
 {
     let layout = layout_in(journal);
     capacity(layout.header, k, journal.len()) <= held_of(journal)
+}
+
+// Whether an entry of a journal may have a number.
+pub fn may_name(journal: &[u8], number: usize) -> bool
+    requires { ⌜ headerOf (now journal) ≤ length (now journal) ⌝ }
+    ensures { λ r. ⌜ r ≡ mayName number (now (journal .entry)) ⌝ }
+{
+    let layout = layout_in(journal);
+    number <= layout.greatest
 }
 
 // What stands before the count: the mark, the version and k.

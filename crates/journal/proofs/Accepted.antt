@@ -1,8 +1,8 @@
--- What the calls' tests tell where nothing refuses: of a step before its word is read, of a step back, of a position and of an entry; and that such
--- buffers are all that the last three ask.
+-- What the calls' tests tell where nothing refuses: of fresh, of a step before its word is read, of a step back, of a position and of an entry; and that
+-- all but the step ask no more. So a register's entry can be appended, and the last one taken back.
 -- Assumes nothing.
 use Prim.Native.Nat.{ℕ, _+_, _*_, _%_, _≤_, _<_}
-use mathlib.Core.Path.{_≡_, refl, _∙_}
+use mathlib.Core.Path.{_≡_, refl, sym, _∙_}
 use mathlib.Core.Bool.{true, false}
 use mathlib.Core.List.{List, _++_}
 use native.Mathlib.Omega.{arith}
@@ -14,19 +14,18 @@ use Rattle.machine.specs.Size.{isLegal, isProgram, wordBytes, mostWords}
 use Rattle.machine.specs.Refusal.{lengthTests, programTests, refused}
 use Rattle.machine.proofs.Tests.{first-none, first-after, none-refused, unless-refused}
 use Rattle.machine.proofs.Checks.{files-checked, legal-most}
-use Rattle.registers.specs.declared.Kind.the-variants.{Vector}
-use Rattle.registers.specs.Register.{registerBytes, numbered}
-use Rattle.registers.specs.State.{Sized}
-use Rattle.registers.proofs.Places.{in-files}
+use Rattle.registers.specs.Register.{Register, IsRegister, registerBytes, numbered}
+use Rattle.registers.specs.State.{Sized, contents}
+use Rattle.registers.proofs.States.{register-in}
 use Rattle.programs.specs.Word.{wordsOf, endTests}
-use Rattle.entries.specs.Layout.{versionOf, heldOf, positionOf, entryAt, lastEntry, freshJournal}
+use Rattle.entries.specs.Layout.{isVersion, isRoom, versionOf, heldOf, positionOf, entryAt, lastEntry, isFull, freshJournal}
 use Rattle.entries.specs.Formed.{Formed}
 use Rattle.entries.specs.Tests.{journalTests}
 use Rattle.entries.specs.Needs.{EntryInside}
-use Rattle.appends.specs.Needs.{TakeBack}
-use Rattle.entries.proofs.Versions.{greatest-vector}
+use Rattle.appends.specs.Needs.{Append, TakeBack}
+use Rattle.entries.proofs.Versions.{greatest-is}
 use Rattle.entries.proofs.Formed.{length-legal, journal-checked, formed-passes}
-use Rattle.entries.proofs.Written.{last-named}
+use Rattle.entries.proofs.Written.{full-room, last-named}
 use Rattle.journal.specs.Left.{Buffers}
 use Rattle.journal.specs.Calls.{freshTests, freshened, bufferTests, emptyTests, startRefused, backRefused}
 use Rattle.journal.specs.Calls.{positionTests, positionRefused, entryTests, entryRefused, entryAnswer}
@@ -45,6 +44,24 @@ module _ (k version : ℕ) (journal : List ℕ) where
   pub fresh-refused : (freshened k version journal .number ≡ 0 → ⊥) → freshened k version journal .after ≡ journal
   unfolding freshened
   fresh-refused h = unless-refused (refused (freshTests k version journal)) (freshJournal version k (length journal)) journal h
+
+-- what is known where a fresh journal is made
+pub record AcceptedFresh (k version : ℕ) (journal : List ℕ) : Type 0 where
+  pub legal : isLegal k ≡ true
+  pub room : isRoom version (length journal) ≡ true
+  pub versioned : isVersion version ≡ true
+
+pub fresh-passes : (k version : ℕ) (journal : List ℕ) → refused (freshTests k version journal) ≡ 0 → AcceptedFresh k version journal
+fresh-passes k version journal e =
+    let none = first-none (freshTests k version journal) tt e in
+    record { legal = not-false _ (none .0); room = not-false _ (none .1 .0); versioned = not-false _ (none .1 .1 .0) }
+
+pub fresh-accepted : (k version : ℕ) (journal : List ℕ) → freshened k version journal .number ≡ 0 → AcceptedFresh k version journal
+fresh-accepted k version journal e = fresh-passes k version journal (sym (fresh-number k version journal) ∙ e)
+
+-- and that is all that it asks
+pub fresh-accepts : (k version : ℕ) (journal : List ℕ) → AcceptedFresh k version journal → freshened k version journal .number ≡ 0
+fresh-accepts k version journal a = fresh-number k version journal ∙ rw (a .legal, a .room, a .versioned)
 
 -- the words of a program are at most as many as one may have
 words-few : (n : ℕ) → isProgram n ≡ true → wordsOf n ≤ mostWords
@@ -97,19 +114,31 @@ returns-accepted k b r =
     rw (r .sized .legal, eq-eqb _ _ (r .sized .vectorSize), eq-eqb _ _ (r .sized .predicateSize))
     (first-after (journalTests k (b .journal)) (refused (emptyTests (b .journal))) tt (formed-passes k (b .journal) (r .formed)) ∙ rw no)
 
--- the last entry names a register, and lies inside
-pub can-take-back : (k : ℕ) (b : Buffers) → Returning k b → TakeBack k (b .files .z) (b .journal)
+-- the last entry names a register that there is, and lies inside
+pub last-register : (k : ℕ) (b : Buffers) → Returning k b → IsRegister (numbered (lastEntry k (b .journal) .number))
+last-register k b r = greatest-is (versionOf (b .journal)) _ (last-named k (b .journal) (r .formed) (r .some))
+
+pub can-take-back : (k : ℕ) (b : Buffers) → Returning k b → TakeBack k (b .files) (b .journal)
 can-take-back k b r =
-    let journal = b .journal in
     record {
+      sized = r .sized;
       some = r .some;
       last = record {
-        entry = record {
-          headed = record { legal = legal-most k (r .sized .legal); header = r .formed .least };
-          place = omega (arith, r .formed .fits, r .some);
-        };
-        register = in-files k (b .files .z) (b .files .p) Vector (lastEntry k journal .number) (r .sized)
-            (greatest-vector (versionOf journal) _ (last-named k journal (r .formed) (r .some)));
+        headed = record { legal = legal-most k (r .sized .legal); header = r .formed .least };
+        place = omega (arith, r .formed .fits, r .some);
+      };
+      register = last-register k b r;
+    }
+
+-- a register that there is can be appended to a well-formed journal that is not full
+pub can-append : (k : ℕ) (r : Register) (b : Buffers) → Sized k (b .files) → Formed k (b .journal) → IsRegister r → isFull k (b .journal) ≡ false
+    → Append k (r .kind) (r .number) (contents (r .kind) (b .files)) (b .journal)
+can-append k r b sized formed is room =
+    record {
+      register = register-in k r (b .files) sized is;
+      entry = record {
+        headed = record { legal = legal-most k (sized .legal); header = formed .least };
+        place = full-room k (b .journal) room formed;
       };
     }
 

@@ -7,15 +7,15 @@ use lib.ListN.{length}
 use Rattle.machine.specs.Refusal.{Test, test, DONE, EMPTY, refused, lengthTests, filesTests, programTests, rangeTest, unlessRefused, answer}
 use Rattle.machine.specs.declared.Answer.{Answer}
 use Rattle.programs.specs.Word.{endTests}
-use Rattle.entries.specs.Tests.{roomTests, journalTests}
+use Rattle.entries.specs.Tests.{roomTests, versionTests, journalTests}
 use Rattle.registers.specs.Register.{registerBytes, numbered}
 use Rattle.entries.specs.Layout.{heldOf, positionOf, entryAt, entryIn, freshJournal}
 use Rattle.journal.specs.declared.Held.{Held}
 use Rattle.journal.specs.Left.{Buffers, Left, leftWith, leaving}
 
--- the tests of fresh, which is told a version
+-- the tests of fresh, which is told a version and goes by it alone: of what it is lent, only the size is asked
 abbrev pub freshTests : ℕ → ℕ → List ℕ → List Test
-freshTests k version journal = lengthTests k ++ roomTests version (length journal)
+freshTests k version journal = lengthTests k ++ roomTests version (length journal) ++ versionTests version
 
 -- the tests of a position: no file is lent
 abbrev pub positionTests : ℕ → List ℕ → List Test

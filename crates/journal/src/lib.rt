@@ -1,27 +1,38 @@
 // The step-back journal: a fresh one, its position, an entry that it holds, and whether a step or a step back is refused.
 ghost use mathlib.Core.Path.{_≡_};
+ghost use Rattle.machine.specs.Refusal.{refused};
 ghost use Rattle.registers.specs.State.{state};
-ghost use Rattle.entries.specs.Layout.{firstVersion};
 ghost use Rattle.journal.specs.Left.{buffersOf};
-ghost use Rattle.journal.specs.Calls.{startRefused, backRefused, positionRefused, positionAnswer, Freshened};
+ghost use Rattle.journal.specs.Calls.{freshTests, startRefused, backRefused, positionRefused, positionAnswer, Freshened};
 ghost use Rattle.journal.specs.Calls.{entryRefused, entryAnswer, noEntry};
 use machine::Answer;
 use machine::Length;
 use machine::refusal;
 
-// Writes a fresh journal; or LENGTH or ROOM, and the journal as it stood.
-pub fn fresh(k: usize, journal: &mut [u8]) -> u8
-    ensures { λ r. ⌜ Freshened k firstVersion (now (journal .entry)) r (now (journal .exit)) ⌝ }
+// The refusal of a fresh journal of the version told, by the size of what is lent: LENGTH, ROOM, JOURNAL or DONE.
+fn check_fresh(k: usize, version: usize, journal: &[u8]) -> u8
+    ensures { λ r. ⌜ r ≡ refused (freshTests k version (now (journal .entry))) ⌝ }
 {
     let length = machine::check_length(k);
     if length != refusal::DONE {
         return length;
     }
-    let room = entries::check_room_for(entries::FIRST_VERSION, journal.len());
+    let room = entries::check_room_for(version, journal.len());
     if room != refusal::DONE {
         return room;
     }
-    appends::put_fresh(k, entries::FIRST_VERSION, journal);
+    entries::check_version(version)
+}
+
+// Writes a fresh journal of the version told, whatever the bytes that are lent; or LENGTH, ROOM or JOURNAL, and the journal as it stood.
+pub fn fresh(k: usize, version: usize, journal: &mut [u8]) -> u8
+    ensures { λ r. ⌜ Freshened k version (now (journal .entry)) r (now (journal .exit)) ⌝ }
+{
+    let number = check_fresh(k, version, journal);
+    if number != refusal::DONE {
+        return number;
+    }
+    appends::put_fresh(k, version, journal);
     refusal::DONE
 }
 

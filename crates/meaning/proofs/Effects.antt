@@ -1,20 +1,25 @@
 -- What a word reads and writes: the registers that its fields name, what they hold, and what is left once its effect is written. These laws alone
 -- open the names, so that all else stands on them.
 -- Assumes nothing.
-use Prim.Native.Nat.{ℕ, _<_}
+use Prim.Native.Nat.{ℕ, _^_, _<_}
 use mathlib.Core.Path.{_≡_, refl, sym, _∙_, ap, ap₂}
 use mathlib.Core.List.{List}
 use native.Mathlib.Omega.{arith}
 use lib.ListN.{length}
 use Rattle.machine.specs.Size.{vectors, vectorBytes}
-use Rattle.registers.specs.Register.{Register, vector, predicate, IsRegister, registerBytes, vectorOf, predicateOf, withVector}
-use Rattle.registers.specs.State.{State, state, Sized, read, write}
+use Rattle.registers.specs.declared.Kind.{Kind}
+use Rattle.registers.specs.declared.Kind.the-variants.{Vector}
+use Rattle.registers.specs.Register.{Register, registerFrom, vector, predicate, IsRegister, registerCount, registerBytes, registerOf, vectorOf, predicateOf, withRegister, withVector}
+use Rattle.registers.specs.State.{State, state, Sized, contents, withContents, read, write}
 use Rattle.registers.proofs.States.{length-read, write-sized, read-write}
 use Rattle.rows.specs.Table.{familyOf}
+use Rattle.rows.specs.declared.Family.{Family}
+use Rattle.rows.specs.declared.Family.the-variants.{Low, Wide, Made}
+use Rattle.words.specs.Field.{destinationDigits}
 use Rattle.words.specs.declared.Fields.{Fields}
-use Rattle.words.proofs.Decoding.{governing-below}
+use Rattle.words.proofs.Decoding.{governing-below, destination-in, source-in}
 use Rattle.meaning.specs.Terms.{Source, Operand1, Operand2, Old, operandOf}
-use Rattle.meaning.specs.Execute.{targetOf, sourceOf, governingOf, operandsOf, maskOf, destinationAfter, effectOf, executed}
+use Rattle.meaning.specs.Execute.{kindWritten, targetOf, sourceOf, governingOf, operandsOf, maskOf, destinationAfter, effectOf, executed}
 use Rattle.meaning.specs.Needs.{Executable}
 use Rattle.meaning.proofs.Sizes.{second-most, length-destination}
 
@@ -25,9 +30,13 @@ sourceField f Operand2 = f .m
 sourceField f Old = f .d
 
 -- the registers, by the fields
-pub target-is : (f : Fields) → targetOf f ≡ vector (f .d)
+pub target-is : (f : Fields) → targetOf f ≡ registerFrom (kindWritten (familyOf (f .row))) (f .d)
 unfolding targetOf
 target-is f = refl
+
+-- by the kind that the family writes
+pub target-of-kind : (f : Fields) (kind : Kind) → kindWritten (familyOf (f .row)) ≡ kind → targetOf f ≡ registerFrom kind (f .d)
+target-of-kind f kind is = target-is f ∙ ap (λ (t : Kind). registerFrom t (f .d)) is
 
 pub source-is : (f : Fields) (source : Source) → sourceOf f source ≡ vector (sourceField f source)
 unfolding sourceOf
@@ -39,13 +48,13 @@ pub governing-is : (f : Fields) → governingOf f ≡ predicate (f .g)
 unfolding governingOf
 governing-is f = refl
 
--- the old operand is the register that is written
-pub old-is-target : (f : Fields) → sourceOf f Old ≡ targetOf f
-old-is-target f = source-is f Old ∙ sym (target-is f)
+-- the old operand of a word that writes a vector is that vector
+pub old-is-target : (f : Fields) → kindWritten (familyOf (f .row)) ≡ Vector → sourceOf f Old ≡ targetOf f
+old-is-target f is = source-is f Old ∙ sym (target-of-kind f Vector is)
 
 module _ (f : Fields) (k : ℕ) (s : State) where
   -- what the destination, the operands and the mask are
-  pub target-bytes : read k (targetOf f) s ≡ vectorOf k (f .d) (s .z)
+  pub target-bytes : read k (targetOf f) s ≡ registerOf k (kindWritten (familyOf (f .row))) (f .d) (contents (kindWritten (familyOf (f .row))) s)
   target-bytes = ap (λ (r : Register). read k r s) (target-is f)
 
   pub operand-is : (source : Source) → operandOf (operandsOf f k s) source ≡ read k (sourceOf f source) s
@@ -72,28 +81,35 @@ module _ (f : Fields) (k : ℕ) (s : State) where
   pub executed-is : executed f k s ≡ write k (targetOf f) (destinationAfter f k s) s
   executed-is = ap₂ (λ (r : Register) (bytes : List ℕ). write k r bytes s) effect-target effect-bytes
 
-  by-field : executed f k s ≡ write k (vector (f .d)) (destinationAfter f k s) s
-  by-field = executed-is ∙ ap (λ (r : Register). write k r (destinationAfter f k s) s) (target-is f)
+  -- of a word that writes a kind of register: one of that kind's file is written, and the other file stays
+  pub executed-of-kind : (kind : Kind) → kindWritten (familyOf (f .row)) ≡ kind
+      → executed f k s ≡ withContents kind (withRegister k kind (f .d) (destinationAfter f k s) (contents kind s)) s
+  executed-of-kind kind is = executed-is ∙ ap (λ (r : Register). write k r (destinationAfter f k s) s) (target-of-kind f kind is)
 
-  pub executed-vectors : executed f k s .z ≡ withVector k (f .d) (destinationAfter f k s) (s .z)
-  executed-vectors = ap (λ (t : State). t .z) by-field
+  pub executed-vectors : kindWritten (familyOf (f .row)) ≡ Vector → executed f k s .z ≡ withVector k (f .d) (destinationAfter f k s) (s .z)
+  executed-vectors is = ap (λ (t : State). t .z) (executed-of-kind Vector is)
 
-  pub executed-predicates : executed f k s .p ≡ s .p
-  executed-predicates = ap (λ (t : State). t .p) by-field
+  pub executed-predicates : kindWritten (familyOf (f .row)) ≡ Vector → executed f k s .p ≡ s .p
+  executed-predicates is = ap (λ (t : State). t .p) (executed-of-kind Vector is)
 
-  -- so it is known from its vector file
-  pub executed-state : (z : List ℕ) → z ≡ executed f k s .z → state z (s .p) ≡ executed f k s
-  executed-state z is = ap₂ state is (sym executed-predicates)
+  -- so such a word's state is known from its vector file
+  pub executed-state : kindWritten (familyOf (f .row)) ≡ Vector → (z : List ℕ) → z ≡ executed f k s .z → state z (s .p) ≡ executed f k s
+  executed-state is z e = ap₂ state e (sym (executed-predicates is))
 
 module _ (f : Fields) (k : ℕ) (s : State) (x : Executable f k s) where
   -- there are these registers
   pub target-register : IsRegister (targetOf f)
-  target-register = rw (target-is f) (x .fields .d)
+  target-register = rw (target-is f) (by (familyOf (f .row)) (x .fields .d))
+    where
+      by : (family : Family) → f .d < 2 ^ destinationDigits family → f .d < registerCount (kindWritten family)
+      by (Low low) h = h
+      by (Wide wide) h = h
+      by (Made made) h = h
 
   pub source-below : (source : Source) → sourceField f source < vectors
-  source-below Operand1 = x .fields .n
+  source-below Operand1 = source-in (x .fields)
   source-below Operand2 = second-most f k s x
-  source-below Old = x .fields .d
+  source-below Old = destination-in (x .fields)
 
   pub source-register : (source : Source) → IsRegister (sourceOf f source)
   source-register source = rw (source-is f source) (source-below source)

@@ -18,6 +18,7 @@ use Rattle.lanes.specs.Sum.{each, element, activeElement, total}
 use Rattle.lanes.proofs.Written.{same-lanes, length-lanes}
 use Rattle.rows.specs.Table.{formOf, familyOf}
 use Rattle.words.specs.declared.Fields.{Fields}
+use Rattle.words.proofs.Decoding.{size-in}
 use Rattle.rows.specs.declared.Parameters.{Parameters}
 use Rattle.rows.specs.declared.Family.the-variants.{Low}
 use Rattle.rows.specs.declared.LowFamily.the-variants.{Reduction, Segment, Long}
@@ -64,7 +65,7 @@ module _ (f : Fields) (k : ℕ) (s : State) (x : Executable f k s) where
       rw is
       (same-lanes w 0 (perSegment w) (columnSum w mask source) (λ (e : ℕ). residue (bitsOf w) (sumOf (operandsOf f k s) (segmentTerms w (vectorBytes k) mask e)))
       (λ e l h. ap (residue (bitsOf w)) (column e))
-      ∙ sym (padded-full segmentBytes _ (length-lanes w 0 (perSegment w) _ ∙ width-legal (f .size) (x .fields .size) .2)))
+      ∙ sym (padded-full segmentBytes _ (length-lanes w 0 (perSegment w) _ ∙ width-legal (f .size) (size-in (x .fields)) .2)))
     where
       column : (e : ℕ) → total (each (columnElement w mask source e) 0 (length source / segmentBytes)) ≡ sumOf (operandsOf f k s) (segmentTerms w (vectorBytes k) mask e)
       column e =
@@ -77,4 +78,4 @@ module _ (f : Fields) (k : ℕ) (s : State) (x : Executable f k s) where
   written-long ps same is =
       rw (same, is)
       (ap (λ (z : ℤ). bytesOf (2 * w) (residue 64 z)) (sym (long-sum (operandsOf f k s) signed w (f .q)))
-      ∙ one-lane (2 * w) (low-most Long signed (f .q) (f .size) (x .fields .size) (rw is at (x .fields .allowed))) (sumOf (operandsOf f k s) (longTerms signed w (f .q))))
+      ∙ one-lane (2 * w) (low-most Long signed (f .q) (f .size) (size-in (x .fields)) (rw is at (x .fields .allowed))) (sumOf (operandsOf f k s) (longTerms signed w (f .q))))

@@ -1,6 +1,6 @@
 -- The registers that a word names have the sizes that the code asks for, its lanes fill them, and what it writes fits its destination.
 -- Assumes nothing.
-use Prim.Native.Nat.{ℕ, zero, suc, _+_, _*_, _/_, _≤_, _<_}
+use Prim.Native.Nat.{ℕ, _+_, _*_, _/_, _≤_, _<_}
 use mathlib.Core.Path.{_≡_, refl}
 use mathlib.Core.Bool.{Bool, true, false, not}
 use native.Mathlib.Omega.{arith}
@@ -11,7 +11,7 @@ use Rattle.machine.specs.Size.{vectors, vectorBytes, predicateBytes, segmentByt
 use Rattle.machine.proofs.Sizes.{of-four}
 use Rattle.machine.proofs.Checks.{legal-least, legal-most}
 use Rattle.parts.proofs.Same.{both-left, both-right}
-use Rattle.registers.specs.Register.{vectorOf, predicateOf, InFile}
+use Rattle.registers.specs.Register.{registerBytes, vectorOf, predicateOf, padded, InFile}
 use Rattle.registers.specs.State.{State}
 use Rattle.registers.specs.declared.Kind.the-variants.{Vector, Predicate}
 use Rattle.registers.proofs.Places.{in-files, length-register}
@@ -19,17 +19,18 @@ use Rattle.lanes.specs.Lane.{widthOf}
 use Rattle.lanes.proofs.Written.{length-lanes}
 use Rattle.rows.specs.Table.{formOf, familyOf}
 use Rattle.words.specs.Sizes.{allowsLong, allowsLow, allowsFamily}
-use Rattle.words.proofs.Decoding.{governing-below, second-below}
+use Rattle.words.proofs.Decoding.{governing-below, second-below, size-in}
 use Rattle.words.specs.declared.Fields.{Fields}
 use Rattle.rows.specs.declared.Family.{Family}
-use Rattle.rows.specs.declared.Family.the-variants.{Low, Wide}
+use Rattle.rows.specs.declared.Family.the-variants.{Low, Wide, Made}
 use Rattle.rows.specs.declared.LowFamily.{LowFamily}
 use Rattle.rows.specs.declared.LowFamily.the-variants.{Reduction, Segment, Long}
 use Rattle.rows.specs.declared.WideFamily.{WideFamily}
 use Rattle.sums.specs.Sums.{Governs}
 use Rattle.sums.proofs.Widths.{width-legal}
 use Rattle.meaning.specs.Meaning.{lowWidth, widthAfter, lowLanes, lanesAfter}
-use Rattle.meaning.specs.Execute.{widthFor, lanesFor, writtenFor, destinationAfter}
+use Rattle.meaning.specs.Execute.{kindWritten, widthFor, lanesFor, writtenFor, laneCount, lanesMade, destinationFor, destinationAfter}
+use Rattle.made.proofs.Made.{made-length}
 use Rattle.meaning.specs.Needs.{Executable}
 use Rattle.registers.proofs.Padded.{length-padded}
 
@@ -74,6 +75,7 @@ fits : (family : Family) (signed : Bool) (k q size : ℕ) → 1 ≤ k → size <
     → lanesAfter family (widthOf size) (vectorBytes k) * widthAfter family (widthOf size) ≤ vectorBytes k
 fits (Low low) signed k q size l s a = omega (arith, low-fits low signed q size s a)
 fits (Wide wide) signed k q size l s a = omega (arith, whole k size s)
+fits (Made made) signed k q size l s a = omega arith
 
 module _ (f : Fields) (k : ℕ) (s : State) (x : Executable f k s) where
   pub k-least : 1 ≤ k
@@ -99,8 +101,8 @@ module _ (f : Fields) (k : ℕ) (s : State) (x : Executable f k s) where
   governs r h =
       let size : length (predicateOf k (f .g) (s .p)) ≡ predicateBytes k = length-register k Predicate (f .g) (s .p) governing-in in
       record {
-        least = width-legal (f .size) (x .fields .size) .0;
-        most = width-legal (f .size) (x .fields .size) .1;
+        least = width-legal (f .size) (size-in (x .fields)) .0;
+        most = width-legal (f .size) (size-in (x .fields)) .1;
         covers = omega (arith, vector-length r h, size);
         bits = omega (arith, size, k-most);
       }
@@ -111,23 +113,37 @@ module _ (f : Fields) (k : ℕ) (s : State) (x : Executable f k s) where
     wider = leb-true 1 (f .size) (both-left (leb 1 (f .size)) (leb (f .size) 3) (rw is at (x .fields .allowed)))
 
     pub wide-halves : widthOf (f .size) / 2 * 2 ≡ widthOf (f .size)
-    wide-halves = halves (f .size) (x .fields .size) wider
+    wide-halves = halves (f .size) (size-in (x .fields)) wider
 
     pub wide-eight : (widthOf (f .size) ≡ 2 → ⊥) → (widthOf (f .size) ≡ 4 → ⊥) → widthOf (f .size) ≡ 8
-    wide-eight = eight (f .size) (x .fields .size) wider
+    wide-eight = eight (f .size) (size-in (x .fields)) wider
 
   -- what a word writes fits its destination
   pub written-fits : length (writtenFor f k s) ≤ vectorBytes k
   written-fits =
       rw (length-lanes (widthFor f) 0 (lanesFor f k) _)
-      (fits (familyOf (f .row)) (formOf (f .row) .parameters .signed) k (f .q) (f .size) k-least (x .fields .size) (x .fields .allowed))
+      (fits (familyOf (f .row)) (formOf (f .row) .parameters .signed) k (f .q) (f .size) k-least (size-in (x .fields)) (x .fields .allowed))
 
   -- the destination keeps its size
-  pub length-destination : length (destinationAfter f k s) ≡ vectorBytes k
-  length-destination = length-padded (vectorBytes k) (writtenFor f k s) written-fits
+  pub length-destination : length (destinationAfter f k s) ≡ registerBytes k (kindWritten (familyOf (f .row)))
+  length-destination = by (familyOf (f .row))
+    where
+      by : (family : Family) → length (destinationFor family f k s) ≡ registerBytes k (kindWritten family)
+      by (Low low) = length-padded (vectorBytes k) (writtenFor f k s) written-fits
+      by (Wide wide) = length-padded (vectorBytes k) (writtenFor f k s) written-fits
+      by (Made made) = made-length (predicateBytes k) (f .size) (lanesMade made (f .pattern) (laneCount f k))
+
+  -- a word that writes a vector leaves there what it writes and zeros above, one that makes a predicate that predicate
+  pub vector-destination : kindWritten (familyOf (f .row)) ≡ Vector → destinationAfter f k s ≡ padded (vectorBytes k) (writtenFor f k s)
+  vector-destination = by (familyOf (f .row))
+    where
+      by : (family : Family) → kindWritten family ≡ Vector → destinationFor family f k s ≡ padded (vectorBytes k) (writtenFor f k s)
+      by (Low low) is = refl
+      by (Wide wide) is = refl
+      by (Made made) is = cc
 
   -- and a low family's the low sixteen bytes
   pub low-written-fits : (low : LowFamily) → familyOf (f .row) ≡ Low low → length (writtenFor f k s) ≤ segmentBytes
   low-written-fits low is =
       rw (length-lanes (widthFor f) 0 (lanesFor f k) _, is)
-      (low-fits low (formOf (f .row) .parameters .signed) (f .q) (f .size) (x .fields .size) (rw is at (x .fields .allowed)))
+      (low-fits low (formOf (f .row) .parameters .signed) (f .q) (f .size) (size-in (x .fields)) (rw is at (x .fields .allowed)))

@@ -1,22 +1,35 @@
 -- What a word does to the state: its destination's bytes become what its form says, all others stay.
-use Prim.Native.Nat.{ℕ, _+_, _*_}
+use Prim.Native.Nat.{ℕ, _+_, _*_, _/_}
 use mathlib.Core.List.{List}
 use lib.IntN.{ℤ}
-use Rattle.machine.specs.Size.{vectorBytes}
+use Rattle.machine.specs.Size.{vectorBytes, predicateBytes}
 use Rattle.parts.specs.Number.{withNumber}
-use Rattle.registers.specs.Register.{Register, vector, predicate, registerAt, padded}
-use Rattle.registers.specs.declared.Kind.the-variants.{Vector}
+use Rattle.registers.specs.Register.{Register, registerFrom, vector, predicate, registerAt, padded}
+use Rattle.registers.specs.declared.Kind.{Kind}
+use Rattle.registers.specs.declared.Kind.the-variants.{Vector, Predicate}
 use Rattle.registers.specs.State.{State, read, write}
 use Rattle.lanes.specs.Lane.{widthOf}
 use Rattle.lanes.specs.Integer.{residue}
 use Rattle.rows.specs.Table.{formOf, familyOf}
+use Rattle.rows.specs.declared.Family.{Family}
+use Rattle.rows.specs.declared.Family.the-variants.{Low, Wide, Made}
+use Rattle.rows.specs.declared.MadeFamily.{MadeFamily}
+use Rattle.rows.specs.declared.MadeFamily.the-variants.{Patterned, Cleared}
+use Rattle.patterns.specs.Lanes.{patternLanes}
+use Rattle.made.specs.Made.{madeBytes}
 use Rattle.words.specs.declared.Fields.{Fields}
 use Rattle.meaning.specs.Terms.{Operands, Source, Operand1, Operand2, Old, Term, sumOf}
 use Rattle.meaning.specs.Meaning.{familyTerms, widthAfter, lanesAfter, familyWritten}
 
+-- the kind of register that a family writes
+abbrev pub kindWritten : Family → Kind
+kindWritten (Low low) = Vector
+kindWritten (Wide wide) = Vector
+kindWritten (Made made) = Predicate
+
 -- the register that a word writes
 unfoldable pub targetOf : Fields → Register
-targetOf f = vector (f .d)
+targetOf f = registerFrom (kindWritten (familyOf (f .row))) (f .d)
 
 -- the register that an operand is
 unfoldable pub sourceOf : Fields → Source → Register
@@ -57,9 +70,26 @@ lanesFor f k = lanesAfter (familyOf (f .row)) (widthOf (f .size)) (vectorBytes k
 abbrev pub writtenFor : Fields → ℕ → State → List ℕ
 writtenFor f k s = familyWritten (familyOf (f .row)) (widthOf (f .size)) (vectorBytes k) (operandsOf f k s) (feeds f k (maskOf f k s))
 
--- the new bytes of its destination: these, and zeros above
+-- how many lanes of its size a vector has, and how many of so many a word makes active: as its pattern names, or none
+abbrev pub laneCount : Fields → ℕ → ℕ
+laneCount f k = vectorBytes k / widthOf (f .size)
+
+abbrev pub lanesMade : MadeFamily → ℕ → ℕ → ℕ
+lanesMade Patterned pattern count = patternLanes pattern count
+lanesMade Cleared pattern count = 0
+
+-- the predicate that it makes of them
+abbrev pub madeFor : MadeFamily → Fields → ℕ → List ℕ
+madeFor made f k = madeBytes (predicateBytes k) (f .size) (lanesMade made (f .pattern) (laneCount f k))
+
+-- the new bytes of its destination: of a vector the lanes that are written, and zeros above; of a predicate what is made
+abbrev pub destinationFor : Family → Fields → ℕ → State → List ℕ
+destinationFor (Low low) f k s = padded (vectorBytes k) (writtenFor f k s)
+destinationFor (Wide wide) f k s = padded (vectorBytes k) (writtenFor f k s)
+destinationFor (Made made) f k s = madeFor made f k
+
 abbrev pub destinationAfter : Fields → ℕ → State → List ℕ
-destinationAfter f k s = padded (vectorBytes k) (writtenFor f k s)
+destinationAfter f k s = destinationFor (familyOf (f .row)) f k s
 
 -- what is written: a register, and its new bytes
 pub record Effect : Type 0 where

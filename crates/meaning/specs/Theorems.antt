@@ -11,7 +11,7 @@ use Rattle.words.specs.Field.{governingDigits}
 use Rattle.words.specs.declared.Fields.{Fields}
 use Rattle.rows.specs.declared.Parameters.{Parameters}
 use Rattle.rows.specs.declared.Family.{Family}
-use Rattle.rows.specs.declared.Family.the-variants.{Low, Wide}
+use Rattle.rows.specs.declared.Family.the-variants.{Low, Wide, Made}
 use Rattle.rows.specs.declared.LowFamily.the-variants.{Reduction, Segment, Long}
 use Rattle.rows.specs.declared.WideFamily.the-variants.{Pairwise, Widening}
 use Rattle.sums.specs.Sums.{Governed, AgreeAt}
@@ -25,6 +25,7 @@ isExact (Low Segment) ps size = false
 isExact (Low Long) ps size = true
 isExact (Wide Pairwise) ps size = false
 isExact (Wide Widening) ps size = not (ps .wide)
+isExact (Made made) ps size = false
 
 -- the sign at which an answer is read: its elements' own, but a difference is signed, that of unsigned elements too
 abbrev pub answerSigned : Parameters → Bool

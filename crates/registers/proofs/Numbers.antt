@@ -35,6 +35,11 @@ pub behind-vectors : (n : ℕ) → vectors ≤ n → numbered n .kind ≡ Predic
 unfolding numbered
 behind-vectors n h = rw (le-ltb n vectors h)
 
+-- and the predicate's number is how far behind
+pub behind-number : (n : ℕ) → vectors ≤ n → numbered n .number ≡ n - vectors
+unfolding numbered
+behind-number n h = rw (le-ltb n vectors h)
+
 -- there and back
 pub numbered-number : (r : Register) → IsRegister r → numbered (entryNumber r) ≡ r
 numbered-number r is = by (r .kind) (r .number) is

@@ -25,12 +25,15 @@ pub record Register : Type 0 where
   pub kind : Kind
   pub number : ℕ
 
--- Z[r] and P[r]
+-- register r of a kind; Z[r] and P[r]
+abbrev pub registerFrom : Kind → ℕ → Register
+registerFrom kind r = record { kind = kind; number = r }
+
 abbrev pub vector : ℕ → Register
-vector r = record { kind = Vector; number = r }
+vector r = registerFrom Vector r
 
 abbrev pub predicate : ℕ → Register
-predicate r = record { kind = Predicate; number = r }
+predicate r = registerFrom Predicate r
 
 -- a register that there is
 abbrev pub IsRegister : Register → Type 0

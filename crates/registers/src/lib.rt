@@ -4,7 +4,8 @@ ghost use mathlib.Core.Path.{_≡_};
 ghost use Prim.Native.Nat.{_≤_, _<_};
 ghost use lib.ListN.{length};
 ghost use Rattle.machine.specs.Size.{mostLength};
-ghost use Rattle.registers.specs.Register.{registerCount, registerBytes, registerAt, registerOf, withRegister, padded, numbered, InFile};
+ghost use Rattle.registers.specs.Register.{registerFrom, registerCount, entryNumber, numbered, registerBytes, registerAt, registerOf};
+ghost use Rattle.registers.specs.Register.{withRegister, padded, InFile};
 
 // The two kinds of register.
 pub enum Kind {
@@ -30,6 +31,28 @@ pub fn kind_numbered(number: usize) -> Kind
         Kind::Vector
     } else {
         Kind::Predicate
+    }
+}
+
+// The number, among the registers of its kind, of the register that a number names in an entry.
+pub fn register_numbered(number: usize) -> usize
+    ensures { λ r. ⌜ r ≡ numbered number .number ⌝ }
+{
+    if Length::VECTORS <= number {
+        number - Length::VECTORS
+    } else {
+        number
+    }
+}
+
+// The number that an entry has for register r of a kind.
+pub fn entry_number(kind: Kind, r: usize) -> usize
+    requires { ⌜ r < registerCount kind ⌝ }
+    ensures { λ n. ⌜ n ≡ entryNumber (registerFrom kind r) ⌝ }
+{
+    match kind {
+        Kind::Vector => r,
+        Kind::Predicate => Length::VECTORS + r,
     }
 }
 
@@ -64,7 +87,7 @@ pub fn register(k: usize, kind: Kind, file: &[u8], r: usize) -> &[u8]
 }
 
 // Writes bytes at the front of a register and zeros above them.
-fn write(destination: &mut [u8], source: &[u8])
+pub fn write(destination: &mut [u8], source: &[u8])
     requires { ⌜ length (now source) ≤ length (now destination) ⌝ }
     ensures { λ _. ⌜ now (destination .exit) ≡ padded (length (now (destination .entry))) (now (source .entry)) ⌝ }
 {

@@ -3,17 +3,15 @@
 -- Assumes nothing.
 use Prim.Native.Nat.{ℕ, _≤_}
 use mathlib.Core.Path.{_≡_, refl, sym, _∙_, ap}
-use mathlib.Core.Bool.{false}
+use mathlib.Core.Bool.{true, false}
 use mathlib.Core.List.{List, _++_}
 use lib.Dec.{eqb}
+use borrow.Author.Tests.{leb-true, not-false}
 use Rattle.machine.specs.Refusal.{Test, UNKNOWN, UNDEFINED, refused, first}
 use Rattle.machine.proofs.Tests.{first-none, first-after, checked, none-refused, unless-refused}
-use Rattle.machine.proofs.Checks.{legal-most}
-use Rattle.registers.specs.declared.Kind.the-variants.{Vector}
 use Rattle.registers.specs.Register.{entryNumber}
-use Rattle.registers.specs.State.{State, Sized}
-use Rattle.registers.proofs.Places.{in-files}
-use Rattle.registers.proofs.Numbers.{vector-number}
+use Rattle.registers.specs.State.{State, Sized, contents}
+use Rattle.rows.specs.Table.{familyOf}
 use Rattle.facts.specs.declared.Facts.{Facts}
 use Rattle.words.specs.Decode.{decoded, numberOf, fieldsOf, wordTests}
 use Rattle.words.specs.declared.Fields.{Fields}
@@ -23,22 +21,20 @@ use Rattle.words.proofs.Encoding.{decoded-in-range}
 use Rattle.cores.specs.Core.{decodedOn}
 use Rattle.cores.proofs.Answers.{core-decodes}
 use Rattle.meaning.specs.Needs.{Executable}
-use Rattle.meaning.specs.Execute.{targetOf}
-use Rattle.meaning.proofs.Effects.{target-is}
-use Rattle.entries.specs.Layout.{layoutOf, versionOf, greatestOf, isFull}
+use Rattle.meaning.specs.Execute.{kindWritten, targetOf}
+use Rattle.meaning.proofs.Effects.{target-is, target-register}
+use Rattle.entries.specs.Layout.{greatestOf, mayName, isFull}
 use Rattle.appends.specs.Needs.{Append}
-use Rattle.entries.proofs.Versions.{vector-named}
-use Rattle.entries.proofs.Written.{full-room}
 use Rattle.journal.specs.Left.{Core, Buffers, leftWith}
 use Rattle.journal.specs.Calls.{startTests, startRefused, backTests, backRefused}
 use Rattle.journal.proofs.Left.{refused-leaves, done-leaves}
-use Rattle.journal.proofs.Accepted.{Started, started, Returning, returning, returns-accepted}
-use Rattle.steps.specs.Calls.{wordNow, fieldsNow, fullTests, stepTests, carriedOut, takenBack, stepBy, stepped, performed, backed}
+use Rattle.journal.proofs.Accepted.{Started, started, Returning, returning, returns-accepted, can-append}
+use Rattle.steps.specs.Calls.{wordNow, fieldsNow, pastTests, stepTests, carriedOut, takenBack, stepBy, stepped, performed, backed}
 use Rattle.steps.specs.Needs.{Ready}
 
 -- the tests of a step once its word is read
 abbrev lateTests : ℕ → Decoded → List ℕ → List Test
-lateTests k word journal = wordTests word ++ fullTests k journal
+lateTests k word journal = wordTests word ++ pastTests k (fieldsOf word) journal
 
 -- a word that is neither UNKNOWN nor UNDEFINED is its fields
 word-of : (x : Decoded) → eqb (numberOf x) UNKNOWN ≡ false → eqb (numberOf x) UNDEFINED ≡ false → x ≡ Word (fieldsOf x)
@@ -49,6 +45,11 @@ word-of (Word f) p q = refl
 -- a word that the core accepts has the fields that it decodes to on any
 accepted-fields : (facts : Facts) (word : ℕ) → decodedOn facts word ≡ Word (fieldsOf (decodedOn facts word)) → decodedOn facts word ≡ Word (fieldsOf (decoded word))
 accepted-fields facts word e = e ∙ ap (λ (d : Decoded). Word (fieldsOf d)) (e ∙ sym (core-decodes facts word _ e))
+
+-- the register that an accepted word writes may be named
+accepted-named : (d : Decoded) (f : Fields) (journal : List ℕ) → d ≡ Word f → mayName (entryNumber (targetOf (fieldsOf d))) journal ≡ true
+    → mayName (entryNumber (targetOf f)) journal ≡ true
+accepted-named d f journal is e = ap (λ (x : Decoded). mayName (entryNumber (targetOf (fieldsOf x))) journal) (sym is) ∙ e
 
 -- an accepted word executes
 pub executable : (k word : ℕ) (f : Fields) (s : State) → Sized k s → decoded word ≡ Word f → Executable f k s
@@ -62,10 +63,6 @@ pub record AcceptedStep (c : Core) (program : List ℕ) (b : Buffers) : Type 0 w
   pub executes : Executable (fieldsNow program (b .journal)) (c .k) (b .files)
   pub named : entryNumber (targetOf (fieldsNow program (b .journal))) ≤ greatestOf (b .journal)
   pub left : stepped c program b .after ≡ carriedOut (c .k) (fieldsNow program (b .journal)) b
-
--- the register that a word writes has a number that an entry may have
-pub target-named : (f : Fields) (k version : ℕ) (s : State) → Executable f k s → entryNumber (targetOf f) ≤ layoutOf version .greatest
-target-named f k version s x = rw (target-is f, vector-number (f .d)) (vector-named version (f .d) (x .fields .d))
 
 module _ (c : Core) (program : List ℕ) (b : Buffers) where
   -- the word at the position, as the core takes it
@@ -109,7 +106,7 @@ module _ (c : Core) (program : List ℕ) (b : Buffers) where
   pub word-performed : (f : Fields) → startRefused (c .k) program b ≡ 0 → word ≡ Word f → performed (c .k) f b ≡ stepped c program b
   unfolding stepped performed
   word-performed f e d =
-      let n : refused (stepTests c program b) ≡ refused (fullTests (c .k) (b .journal)) = word-decides (Word f) e d in
+      let n : refused (stepTests c program b) ≡ refused (pastTests (c .k) f (b .journal)) = word-decides (Word f) e d in
       let decodes = core-decodes (c .facts) (wordNow program (b .journal)) f d in
       rw (n, decodes)
 
@@ -126,9 +123,9 @@ module _ (c : Core) (program : List ℕ) (b : Buffers) where
       record {
         start = begun;
         word = known;
-        room = late .1 .1 .0;
+        room = late .1 .1 .1 .0;
         executes = executes;
-        named = target-named f (c .k) (versionOf (b .journal)) (b .files) executes;
+        named = leb-true _ _ (accepted-named word f (b .journal) known (not-false _ (late .1 .1 .0)));
         left = rw e;
       }
 
@@ -169,13 +166,9 @@ back-accepted k b e = record { start = returning k b e; left = rw e }
 pub back-accepts : (k : ℕ) (b : Buffers) → Returning k b → backed k b .number ≡ 0
 back-accepts k b r = back-number k b ∙ returns-accepted k b r
 
--- a step that has room for its entry can append it
-pub can-append : (k : ℕ) (f : Fields) (b : Buffers) → Ready k f b → isFull k (b .journal) ≡ false → Append k (f .d) (b .files .z) (b .journal)
-can-append k f b ready room =
-    record {
-      register = in-files k (b .files .z) (b .files .p) Vector (f .d) (ready .word .lent) (ready .word .fields .d);
-      entry = record {
-        headed = record { legal = legal-most k (ready .word .lent .legal); header = ready .formed .least };
-        place = full-room k (b .journal) room (ready .formed);
-      };
-    }
+-- a step that has room for its entry can append that of the register which its word writes
+pub can-append-target : (k : ℕ) (f : Fields) (b : Buffers) → Ready k f b → isFull k (b .journal) ≡ false
+    → let kind = kindWritten (familyOf (f .row)) in Append k kind (f .d) (contents kind (b .files)) (b .journal)
+can-append-target k f b ready room =
+    rw (target-is f) at
+    (can-append k (targetOf f) b (ready .word .lent) (ready .formed) (target-register f k (b .files) (ready .word)) room)

@@ -1,15 +1,17 @@
 -- What a step and a step back answer, and what they leave in every lent buffer, for every input.
-use Prim.Native.Nat.{ℕ}
+use Prim.Native.Nat.{ℕ, _+_, _*_}
 use mathlib.Core.Path.{_≡_}
+use mathlib.Core.Bool.{not}
 use mathlib.Core.List.{List, [], _∷_, _++_}
-use Rattle.machine.specs.Refusal.{Test, test, FULL}
+use Rattle.machine.specs.Refusal.{Test, test, testAt, JOURNAL, UNDEFINED, FULL}
+use Rattle.registers.specs.Register.{entryNumber}
 use Rattle.programs.specs.Word.{wordAt}
 use Rattle.words.specs.Decode.{decoded, fieldsOf, wordTests}
 use Rattle.words.specs.declared.Fields.{Fields}
 use Rattle.words.specs.declared.Decoded.{Decoded}
 use Rattle.cores.specs.Core.{decodedOn}
 use Rattle.meaning.specs.Execute.{targetOf, executed}
-use Rattle.entries.specs.Layout.{positionOf, isFull, lastEntry, pushed, popped}
+use Rattle.entries.specs.Layout.{positionOf, mayName, isFull, lastEntry, pushed, popped}
 use Rattle.entries.specs.Restored.{entryOf, restored}
 use Rattle.journal.specs.Left.{Core, Buffers, buffersOf, BytesIn, Left, leftWith, leaving}
 use Rattle.journal.specs.Calls.{startTests, backTests}
@@ -21,13 +23,21 @@ wordNow program journal = wordAt program (positionOf journal)
 abbrev pub fieldsNow : List ℕ → List ℕ → Fields
 fieldsNow program journal = fieldsOf (decoded (wordNow program journal))
 
--- the test of a step past its word: no further entry fits
+-- the test of the register that a word writes: no entry of the journal may name it; JOURNAL has here a place between UNDEFINED and FULL
+abbrev pub namedTests : Fields → List ℕ → List Test
+namedTests f journal = testAt (10 * UNDEFINED + 5) JOURNAL (not (mayName (entryNumber (targetOf f)) journal)) ∷ []
+
+-- the test of the room for an entry: no further one fits
 abbrev pub fullTests : ℕ → List ℕ → List Test
 fullTests k journal = test FULL (isFull k journal) ∷ []
 
+-- the tests of a step past its word
+abbrev pub pastTests : ℕ → Fields → List ℕ → List Test
+pastTests k f journal = namedTests f journal ++ fullTests k journal
+
 -- the tests of a step, by what its word decodes to
 abbrev pub testsBy : ℕ → List ℕ → Buffers → Decoded → List Test
-testsBy k program b d = startTests k program b ++ wordTests d ++ fullTests k (b .journal)
+testsBy k program b d = startTests k program b ++ wordTests d ++ pastTests k (fieldsOf d) (b .journal)
 
 -- the tests of a step on a core, which accepts or refuses its word
 abbrev pub stepTests : Core → List ℕ → Buffers → List Test
@@ -49,9 +59,9 @@ stepBy k program b d = leaving (testsBy k program b d) (carriedOut k (fieldsNow 
 unfoldable pub stepped : Core → List ℕ → Buffers → Left Buffers
 stepped c program b = stepBy (c .k) program b (decodedOn (c .facts) (wordNow program (b .journal)))
 
--- what a step past its word leaves, which only the room for its entry refuses
+-- what a step past its word leaves, which only the name of its entry and the room for it refuse
 unfoldable pub performed : ℕ → Fields → Buffers → Left Buffers
-performed k f b = leaving (fullTests k (b .journal)) (carriedOut k f b) b
+performed k f b = leaving (pastTests k f (b .journal)) (carriedOut k f b) b
 
 -- what a step back leaves
 unfoldable pub backed : ℕ → Buffers → Left Buffers

@@ -11,6 +11,7 @@ use Rattle.registers.specs.State.{State}
 use Rattle.registers.specs.declared.Kind.the-variants.{Vector}
 use Rattle.lanes.specs.Integer.{residue}
 use Rattle.words.specs.declared.Fields.{Fields}
+use Rattle.words.proofs.Decoding.{destination-in, size-in}
 use Rattle.rows.specs.declared.Parameters.{Parameters}
 use Rattle.rows.specs.declared.WideFamily.{WideFamily}
 use Rattle.rows.specs.declared.WideFamily.the-variants.{Pairwise, Widening}
@@ -35,19 +36,19 @@ module _ (ps : Parameters) (w e : ℕ) (f : Fields) (k : ℕ) (s : State) where
     holds i a l is =
         rw (t .lanes .width, is)
         (record {
-          some = width-legal (f .size) (word .fields .size) .0;
-          most = width-legal (f .size) (word .fields .size) .1;
+          some = width-legal (f .size) (size-in (word .fields)) .0;
+          most = width-legal (f .size) (size-in (word .fields)) .1;
           halves = wide-halves f k s word wide (t .lanes .word .is);
           inside = rw (vector-length f k s word i l) (lane-ends wide f k s (t .lanes .word) e (t .inside));
         })
 
     -- the predicate governs the destination
     pub governed : (mask old : List ℕ) → mask ≡ predicateOf k (f .g) (s .p) → old ≡ vectorOf k (f .d) (s .z) → Governs w mask old
-    governed mask old p q = rw (t .lanes .width, p, q) (governs f k s word (f .d) (word .fields .d))
+    governed mask old p q = rw (t .lanes .width, p, q) (governs f k s word (f .d) (destination-in (word .fields)))
 
     -- the lane's place in the destination, and what stands in the file once its number is there
     pub placed : InFile k Vector (f .d) (s .z) × (e * w + w ≤ vectorBytes k)
-    placed = (vector-in f k s word (f .d) (word .fields .d), rw (t .lanes .width) (lane-ends wide f k s (t .lanes .word) e (t .inside)))
+    placed = (vector-in f k s word (f .d) (destination-in (word .fields)), rw (t .lanes .width) (lane-ends wide f k s (t .lanes .word) e (t .inside)))
 
     pub written : (number : ℕ) → number ≡ residue 64 (integerAfter f k s e)
         → withNumber (registerAt k Vector (f .d) + e * w) w number (s .z) ≡ laneWritten f k e s

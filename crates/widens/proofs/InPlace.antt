@@ -29,6 +29,7 @@ use Rattle.lanes.specs.Sum.{element}
 use Rattle.lanes.proofs.Written.{length-lanes, lanes-snoc, bytes-residue}
 use Rattle.rows.specs.Table.{formOf}
 use Rattle.words.specs.declared.Fields.{Fields}
+use Rattle.words.proofs.Decoding.{destination-in, size-in}
 use Rattle.rows.specs.declared.Parameters.{Parameters}
 use Rattle.rows.specs.declared.Family.the-variants.{Wide}
 use Rattle.rows.specs.declared.WideFamily.{WideFamily}
@@ -36,13 +37,13 @@ use Rattle.rows.specs.declared.WideFamily.the-variants.{Pairwise, Widening}
 use Rattle.sums.proofs.Widths.{width-legal}
 use Rattle.meaning.specs.Terms.{Operands, Source, Operand1, Operand2, Old, operandOf, elementOf, sumOf, selected, firstTerm}
 use Rattle.meaning.specs.Meaning.{wideTerms}
-use Rattle.meaning.specs.Execute.{operandsOf, maskOf, integerAfter, laneWritten, executed}
+use Rattle.meaning.specs.Execute.{kindWritten, operandsOf, maskOf, integerAfter, laneWritten, executed}
 use Rattle.meaning.specs.Needs.{ExecutableAs}
 use Rattle.widens.specs.Needs.{WideLanes, WideTurn}
 use Rattle.elements.proofs.Halves.{half-taken, element-same, half-same}
 use Rattle.registers.proofs.Padded.{padded-full}
 use Rattle.meaning.proofs.Effects.{sourceField, source-below, operand-bytes, mask-bytes, executed-vectors}
-use Rattle.meaning.proofs.Sizes.{whole, k-most, wide-halves, vector-in, vector-length}
+use Rattle.meaning.proofs.Sizes.{whole, k-most, wide-halves, vector-in, vector-length, vector-destination}
 
 -- a part written right behind another is one part
 with-next : (a n m : ℕ) (e g l : List ℕ) → a + n + m ≤ length l → length e ≡ n → withPart (a + n) m g (withPart a n e l) ≡ withPart a (n + m) (e ++ g) l
@@ -109,14 +110,14 @@ module _ (wide : WideFamily) (f : Fields) (k : ℕ) (s : State) (x : ExecutableA
 
   -- a lane of a register ends within it, and a register within the file
   pub lane-ends : (e : ℕ) → e < vectorBytes k / w → e * w + w ≤ vectorBytes k
-  lane-ends e h = omega (arith, place-within e (vectorBytes k / w) w h, whole k (f .size) (x .word .fields .size))
+  lane-ends e h = omega (arith, place-within e (vectorBytes k / w) w h, whole k (f .size) (size-in (x .word .fields)))
 
   register-ends : (r : ℕ) → r < vectors → place r + vectorBytes k ≤ length (s .z)
   register-ends r h = register-inside k Vector r (s .z) (vector-in f k s (x .word) r h)
 
   module _ (e : ℕ) (some : e ≤ vectorBytes k / w) where
     fits : place (f .d) + e * w ≤ length (s .z)
-    fits = omega (arith, register-ends (f .d) (x .word .fields .d), mul-le-mul-right w some, whole k (f .size) (x .word .fields .size))
+    fits = omega (arith, register-ends (f .d) (destination-in (x .word .fields)), mul-le-mul-right w some, whole k (f .size) (size-in (x .word .fields)))
 
     sized : length (lanesBelow f k s e) ≡ e * w
     sized = length-lanes w 0 e _
@@ -187,7 +188,7 @@ module _ (wide : WideFamily) (f : Fields) (k : ℕ) (s : State) (x : ExecutableA
     after-next z is =
         rw is
         (with-next (place (f .d)) (e * w) w (lanesBelow f k s e) (bytesOf w (residue 64 (integerAfter f k (state (fileAfter f k s e) (s .p)) e))) (s .z)
-        (omega (arith, register-ends (f .d) (x .word .fields .d), lane-ends e turn))
+        (omega (arith, register-ends (f .d) (destination-in (x .word .fields)), lane-ends e turn))
         (sized e some)
         ∙ ap₂ (λ (n : ℕ) (lanes : List ℕ). withPart (place (f .d)) n lanes (s .z)) wider longer)
       where
@@ -198,7 +199,7 @@ module _ (wide : WideFamily) (f : Fields) (k : ℕ) (s : State) (x : ExecutableA
         longer =
             ap (λ (bytes : List ℕ). lanesBelow f k s e ++ bytes)
             (ap (λ (z : ℤ). bytesOf w (residue 64 z)) same-integer
-            ∙ sym (bytes-residue w (width-legal (f .size) (x .word .fields .size) .1) (integerAfter f k s e)))
+            ∙ sym (bytes-residue w (width-legal (f .size) (size-in (x .word .fields)) .1) (integerAfter f k s e)))
             ∙ sym (rw (add-one e, lanes-snoc w 0 e (λ (i : ℕ). residue (bitsOf w) (integerAfter f k s i)), zero-add e))
 
   -- before the first lane, and after the last
@@ -207,12 +208,13 @@ module _ (wide : WideFamily) (f : Fields) (k : ℕ) (s : State) (x : ExecutableA
 
   after-all : fileAfter f k s (vectorBytes k / w) ≡ executed f k s .z
   after-all =
-      rw (executed-vectors f k s, x .is)
+      let vectors = ap kindWritten (x .is) in
+      rw (executed-vectors f k s vectors, vector-destination f k s (x .word) vectors, x .is)
       (ap₂ (λ (n : ℕ) (lanes : List ℕ). withPart (place (f .d)) n lanes (s .z)) filled
       (sym (padded-full (vectorBytes k) _ (length-lanes w 0 (vectorBytes k / w) _ ∙ filled))))
     where
       filled : vectorBytes k / w * w ≡ vectorBytes k
-      filled = whole k (f .size) (x .word .fields .size)
+      filled = whole k (f .size) (size-in (x .word .fields))
 
 -- the turns of a loop over the lanes: of w bytes each, out of so many that the destination has, from the file as it stood
 module _ (wide : WideFamily) (ps : Parameters) (f : Fields) (k w bytes : ℕ) (s : State) (h : WideLanes wide ps w f k s) (all : bytes ≡ vectorBytes k) where
@@ -220,7 +222,7 @@ module _ (wide : WideFamily) (ps : Parameters) (f : Fields) (k w bytes : ℕ) (s
   counted = ap₂ (λ (n v : ℕ). n / v) all (h .width)
 
   pub width-some : 0 < w
-  width-some = rw (h .width) (width-legal (f .size) (h .word .word .fields .size) .0)
+  width-some = rw (h .width) (width-legal (f .size) (size-in (h .word .word .fields)) .0)
 
   pub few-turns : bytes / w ≤ vectorBytes mostLength
   few-turns = omega (arith, div-le-self bytes w, k-most f k s (h .word .word), all)

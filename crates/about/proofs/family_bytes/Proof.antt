@@ -18,8 +18,12 @@ returns c = of-arm (bytesOf (c .before .before .before .before)) _ _ _ (c .befor
 returns-2 : tie.Need-returns-2
 returns-2 c = of-arm (bytesOf (c .before .before .before .before)) _ _ _ (c .before .before .family2 .given .1) (c .wide-bytes .ensures)
 
+returns-3 : tie.Need-returns-3
+returns-3 c = of-arm (bytesOf (c .before .before .before)) _ _ _ (c .before .enum-told .given .1) (c .made-bytes .ensures)
+
 pub family-bytes-spec : {M : Type 1} → statement M
 family-bytes-spec =
     let low = tie.spec (λ c. search needs) (λ c κs. search needs) in
     let wide = low (λ c. search needs) (λ c κs. search needs) in
-    tie.close (wide returns returns-2)
+    let made = wide (λ c. search needs) (λ c κs. search needs) in
+    tie.close (made returns returns-2 returns-3)

@@ -1,16 +1,26 @@
--- `is_version` meets its contract: the comparison with the one version is the test.
+-- `is_version` meets its contract: each arm names a version that is defined, and what no arm names is none of them.
 -- Assumes nothing.
-use mathlib.Core.Path.{_≡_, refl}
-use mathlib.Core.Bool.{Bool, true, false, cond}
+use Prim.Native.Nat.{ℕ}
+use mathlib.Core.Path.{_≡_, sym}
+use mathlib.Core.Logic.{inl, inr}
+use Rattle.machine.proofs.Legal.{Among, among-true, among-false}
+use Rattle.entries.specs.Layout.{formerVersion, currentVersion, journalVersions}
 use Rattle.entries.proofs.is_version.Statement.{statement}
 use Rattle.entries.proofs.is_version.Tie as tie
 
-told : (t : Bool) → t ≡ cond t true false
-told true = refl
-told false = refl
+-- what no arm names
+none : (version : ℕ) → (version ≡ formerVersion → ⊥) → (version ≡ currentVersion → ⊥) → Among version journalVersions → ⊥
+none version former current (inl is) = former is
+none version former current (inr is) = current is
 
 returns : tie.Need-returns
-returns c = told _
+returns c = sym (among-true _ journalVersions (inl (c .match .keys1)))
+
+returns-2 : tie.Need-returns-2
+returns-2 c = sym (among-true _ journalVersions (inr (c .match .keys2)))
+
+returns-3 : tie.Need-returns-3
+returns-3 c = sym (among-false _ journalVersions (none _ (c .match .rest .0 .1) (c .match .rest .1)))
 
 pub is-version-spec : {M : Type 1} → statement M
-is-version-spec = tie.close (tie.spec returns)
+is-version-spec = tie.close (tie.spec returns returns-2 returns-3)

@@ -2,6 +2,7 @@
 -- Assumes nothing.
 use borrow.Author.Needs.{needs}
 use denote.Ref.{now}
+use Rattle.words.proofs.Decoding.{destination-in}
 use Rattle.registers.specs.State.{state}
 use Rattle.meaning.proofs.Sizes.{vector-in}
 use Rattle.plain.proofs.walk_fields.Statement.{statement}
@@ -14,7 +15,7 @@ begin c = c .before .before .before .before
 register-requires : tie.Need-register-requires
 register-requires c κs =
     let s = begin c in
-    vector-in (s .args .f) (s .args .k) (state (now (s .args .z)) (now (s .args .p))) (s .pre) (s .args .f .d) (s .pre .fields .d)
+    vector-in (s .args .f) (s .args .k) (state (now (s .args .z)) (now (s .args .p))) (s .pre) (s .args .f .d) (destination-in (s .pre .fields))
 
 pub walk-fields-spec : {M : Type 1} → statement M
 walk-fields-spec =

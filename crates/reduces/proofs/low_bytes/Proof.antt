@@ -8,7 +8,7 @@ use denote.Ref.{now}
 use Rattle.machine.specs.Size.{segmentBytes}
 use Rattle.registers.specs.Register.{padded}
 use Rattle.registers.specs.State.{State, state}
-use Rattle.words.proofs.Decoding.{q-below}
+use Rattle.words.proofs.Decoding.{q-below, size-in, source-in}
 use Rattle.rows.specs.Table.{familyOf}
 use Rattle.rows.specs.declared.Family.the-variants.{Low}
 use Rattle.sums.proofs.Widths.{width-legal}
@@ -35,23 +35,23 @@ register-requires : tie.Need-register-requires
 register-requires c κs = governing-in _ _ _ (begin c .pre .0 .word)
 
 register-requires-2 : tie.Need-register-requires-2
-register-requires-2 c κs = let h = begin (c .before) .pre .0 .word in vector-in _ _ _ h _ (h .fields .n)
+register-requires-2 c κs = let h = begin (c .before) .pre .0 .word in vector-in _ _ _ h _ (source-in (h .fields))
 
 reduction-low-requires : tie.Need-reduction-low-requires
 reduction-low-requires c κs =
     let r = c .before .before in
     let h = start r .pre .0 .word in
-    rw (r .before .before .width-of .ensures, r .before .register .ensures, r .register2 .ensures) (governs _ _ _ h _ (h .fields .n))
+    rw (r .before .before .width-of .ensures, r .before .register .ensures, r .register2 .ensures) (governs _ _ _ h _ (source-in (h .fields)))
 
 segment-sums-requires : tie.Need-segment-sums-requires
 segment-sums-requires c κs =
     let r = c .before .before in
     let h = start r .pre .0 .word in
-    let size = vector-length _ _ _ h _ (h .fields .n) in
+    let size = vector-length _ _ _ h _ (source-in (h .fields)) in
     rw (r .before .before .width-of .ensures, r .before .register .ensures, r .register2 .ensures)
     (record {
-      governs = governs _ _ _ h _ (h .fields .n);
-      fills = width-legal _ (h .fields .size) .2;
+      governs = governs _ _ _ h _ (source-in (h .fields));
+      fills = width-legal _ (size-in (h .fields)) .2;
       segments = record { whole = omega (arith, size); few = omega (arith, size, k-most _ _ _ h) };
     })
 
@@ -61,10 +61,10 @@ long-low-requires c κs =
     let h = start r .pre .0 .word in
     rw (r .before .before .width-of .ensures, r .register2 .ensures)
     (record {
-      least = width-legal _ (h .fields .size) .0;
-      most = width-legal _ (h .fields .size) .1;
+      least = width-legal _ (size-in (h .fields)) .0;
+      most = width-legal _ (size-in (h .fields)) .1;
       low = q-below (familyOf (start r .args .f .row)) (h .fields .q);
-      one = omega (arith, vector-length _ _ _ h _ (h .fields .n), k-least _ _ _ h);
+      one = omega (arith, vector-length _ _ _ h _ (source-in (h .fields)), k-least _ _ _ h);
     })
 
 -- what is read is the word's mask and its first operand
@@ -96,7 +96,7 @@ pub low-bytes-spec : {M : Type 1} → statement M
 low-bytes-spec =
     tie.close
     (tie.spec
-    (λ c κs. search needs)  -- width-of-requires
+    (λ c κs. size-in (c .before .before .pre .0 .word .fields))  -- width-of-requires
     register-requires
     register-requires-2
     (λ c. search needs)  -- enum-told

@@ -2,15 +2,11 @@
 -- Assumes nothing.
 use borrow.Author.Needs.{needs}
 use Prim.Native.Nat.{ℕ}
-use mathlib.Core.Path.{_≡_, sym, _∙_, ap, ap₂}
+use mathlib.Core.Path.{_≡_, sym, _∙_, ap₂}
 use mathlib.Core.List.{List}
 use native.Mathlib.Omega.{arith}
 use denote.Ref.{now}
 use Rattle.registers.specs.State.{State, state}
-use Rattle.entries.specs.Layout.{versionOf, lastEntry, popped}
-use Rattle.entries.proofs.Versions.{greatest-vector}
-use Rattle.entries.proofs.Written.{last-named, length-last}
-use Rattle.entries.proofs.Restored.{vector-restored}
 use Rattle.appends.specs.Needs.{TakenBack}
 use Rattle.journal.specs.Left.{Buffers, buffersOf, BytesIn, leftWith}
 use Rattle.journal.specs.Calls.{backRefused}
@@ -21,23 +17,17 @@ use Rattle.steps.proofs.back.Statement.{statement}
 use Rattle.steps.proofs.back.Tie as tie
 
 -- the last entry taken off is what an accepted step back leaves
-taken-off : (k : ℕ) (b : Buffers) (z-after after : List ℕ) → backRefused k b ≡ 0 → TakenBack k (b .files .z) (b .journal) z-after after
-    → leftWith 0 (buffersOf (state z-after (b .files .p)) after) ≡ backed k b
-taken-off k b z-after after e t =
-    let r = returning k b e in
-    let last = lastEntry k (b .journal) in
-    let named = greatest-vector (versionOf (b .journal)) _ (last-named k (b .journal) (r .formed) (r .some)) in
-    ap₂ (λ (z entries : List ℕ). leftWith 0 (buffersOf (state z (b .files .p)) entries)) (t .vectors) (t .bytes)
-    ∙ ap (λ (s : State). leftWith 0 (buffersOf s (popped k (b .journal))))
-    (sym (vector-restored k last (b .files) named (length-last k (b .journal) (r .formed) (r .some))))
-    ∙ back-taken k b e
+taken-off : (k : ℕ) (b : Buffers) (files : State) (after : List ℕ) → backRefused k b ≡ 0 → TakenBack k (b .files) (b .journal) files after
+    → leftWith 0 (buffersOf files after) ≡ backed k b
+taken-off k b files after e t =
+    ap₂ (λ (s : State) (entries : List ℕ). leftWith 0 (buffersOf s entries)) (t .files) (t .bytes) ∙ back-taken k b e
 
 -- where the function started, and where the last entry is taken off
 abbrev start : tie.After-check-back → tie.Start
-start c = c .before .before .before .before .before .before
+start c = c .before .before .before .before .before .before .before
 
 abbrev taken : tie.After-journal → tie.After-take-back
-taken c = c .before .before .before
+taken c = c .before .before .before .before .before
 
 abbrev lent : tie.Start → Buffers
 lent s = buffersOf (state (now (s .args .z)) (now (s .args .p))) (now (s .args .journal))
@@ -46,9 +36,9 @@ lent s = buffersOf (state (now (s .args .z)) (now (s .args .p))) (now (s .args .
 bytes : (c : tie.After-check-back) → BytesIn (lent (start c))
 bytes c =
     record {
-      vectors = λ i. omega (arith, c .before .before .before .before .before .slice-known .given i);
-      predicates = λ i. omega (arith, c .before .before .before .before .shared-slice-known .given i);
-      entries = λ i. omega (arith, c .before .before .before .slice-known2 .given i);
+      vectors = λ i. omega (arith, c .before .before .before .before .before .before .slice-known .given i);
+      predicates = λ i. omega (arith, c .before .before .before .before .before .slice-known2 .given i);
+      entries = λ i. omega (arith, c .before .before .before .before .slice-known3 .given i);
     }
 
 -- past the check nothing refuses
@@ -62,14 +52,14 @@ returns c =
 
 take-back-requires : tie.Need-take-back-requires
 take-back-requires c κs =
-    let e = c .before .before in
+    let e = c .before .before .before in
     let s = start (e .before) in
     can-take-back (s .args .k) (lent s) (returning (s .args .k) (lent s) (passed e))
 
 returns-2 : tie.Need-returns-2
 returns-2 c =
     let t = taken (c .before) in
-    let e = t .before .before .before in
+    let e = t .before .before .before .before in
     let s = start (e .before) in
     record { leaves = taken-off (s .args .k) (lent s) _ _ (passed e) (t .take-back .ensures); bytes = bytes (e .before) }
 
@@ -80,8 +70,10 @@ back-spec =
     (λ c κs. search needs)
     (λ c. search needs)
     (λ c. search needs)
+    (λ c. search needs)
     returns
     take-back-requires
+    (λ c. search needs)
     (λ c. search needs)
     (λ c. search needs)
     returns-2)

@@ -1,90 +1,120 @@
--- `perform` meets its contract: with no room for an entry FULL and all as it stood; else the word is carried out.
+-- `perform` meets its contract: where no entry may name what the word writes JOURNAL, with no room for an entry FULL, and all as it stood; else the word
+-- is carried out.
 -- Assumes nothing.
 use borrow.Author.Needs.{needs}
+use borrow.Author.Tests.{not-true, not-false}
 use Prim.Native.Nat.{ℕ}
-use mathlib.Core.Path.{_≡_, sym, _∙_, ap, ap₂}
+use mathlib.Core.Path.{_≡_, sym, _∙_, ap}
 use mathlib.Core.Bool.{true, false}
-use mathlib.Core.List.{List}
 use denote.Ref.{now}
-use Rattle.machine.specs.Refusal.{DONE, FULL}
+use Rattle.machine.specs.Refusal.{DONE, JOURNAL, FULL}
 use Rattle.machine.proofs.Checks.{legal-most}
-use Rattle.registers.specs.Register.{Register, vectorOf}
-use Rattle.registers.specs.State.{State, state}
+use Rattle.registers.specs.declared.Kind.{Kind}
+use Rattle.registers.specs.Register.{registerFrom, entryNumber}
+use Rattle.registers.specs.State.{state}
+use Rattle.rows.specs.Table.{familyOf}
 use Rattle.words.specs.declared.Fields.{Fields}
-use Rattle.meaning.specs.Execute.{targetOf}
-use Rattle.meaning.specs.Needs.{Executable}
-use Rattle.meaning.proofs.Effects.{target-is, executed-state}
-use Rattle.entries.specs.Layout.{Entry, isFull, pushed}
-use Rattle.entries.specs.Restored.{entryOf}
-use Rattle.entries.proofs.Restored.{vector-entry}
+use Rattle.meaning.specs.Execute.{kindWritten, targetOf}
+use Rattle.meaning.proofs.Effects.{target-is, target-of-kind, target-register}
+use Rattle.entries.specs.Layout.{mayName, isFull}
 use Rattle.journal.specs.Left.{Buffers, buffersOf, leftWith}
-use Rattle.steps.specs.Calls.{performed, Performed}
-use Rattle.steps.specs.Needs.{CarriedOut}
-use Rattle.steps.proofs.Accepted.{can-append}
+use Rattle.steps.specs.Calls.{carriedOut, performed, Performed}
+use Rattle.steps.proofs.Accepted.{can-append-target}
 use Rattle.steps.proofs.perform.Statement.{statement}
 use Rattle.steps.proofs.perform.Tie as tie
 
--- with no room for an entry all is left as it stood; else the word is carried out
-full : (k : ℕ) (f : Fields) (b : Buffers) → isFull k (b .journal) ≡ true → Performed k f b FULL b
+-- with no name or no room for its entry all is left as it stood; else the word is carried out
+unnamed : (k : ℕ) (f : Fields) (b : Buffers) → mayName (entryNumber (targetOf f)) (b .journal) ≡ false → Performed k f b JOURNAL b
 unfolding performed
-full k f b h = rw h
+unnamed k f b h = rw h
 
--- the entry that is appended is that of the register which the word writes
-entry-is : (k : ℕ) (f : Fields) (s : State) → Executable f k s → record { number = f .d; old = vectorOf k (f .d) (s .z) } ≡ entryOf k (targetOf f) s
-entry-is k f s x = sym (ap (λ (r : Register). entryOf k r s) (target-is f) ∙ vector-entry k (f .d) s (x .lent) (x .fields .d))
-
-carried-out : (k : ℕ) (f : Fields) (b : Buffers) (z-after after : List ℕ) → Executable f k (b .files) → isFull k (b .journal) ≡ false → CarriedOut k f b z-after after
-    → Performed k f b DONE (buffersOf (state z-after (b .files .p)) after)
+full : (k : ℕ) (f : Fields) (b : Buffers) → mayName (entryNumber (targetOf f)) (b .journal) ≡ true → isFull k (b .journal) ≡ true → Performed k f b FULL b
 unfolding performed
-carried-out k f b z-after after x h c =
-    rw h
-    (ap₂ (λ (s : State) (entries : List ℕ). leftWith DONE (buffersOf s entries)) (executed-state f k (b .files) z-after (c .vectors))
-    (c .entries ∙ ap (λ (e : Entry). pushed k e (b .journal)) (entry-is k f (b .files) x)))
+full k f b named h = rw (named, h)
 
--- where the function started, and where the word is carried out
-abbrev start : tie.After-is-full → tie.Start
-start c = c .before .before .before .before .before
+carried-out : (k : ℕ) (f : Fields) (b after : Buffers) → mayName (entryNumber (targetOf f)) (b .journal) ≡ true → isFull k (b .journal) ≡ false
+    → after ≡ carriedOut k f b
+    → Performed k f b DONE after
+unfolding performed
+carried-out k f b after named room e = rw (named, room) (ap (leftWith DONE) e)
 
-abbrev carried : tie.After-journal → tie.After-carry-out
-carried c = c .before .before .before
+-- the number of the register that a word writes, from the kind of its row
+number-is : (f : Fields) (kind : Kind) {number : ℕ} → kind ≡ kindWritten (familyOf (f .row)) → number ≡ entryNumber (registerFrom kind (f .d)) → number ≡ entryNumber (targetOf f)
+number-is f kind is e = e ∙ ap entryNumber (sym (target-of-kind f kind (sym is)))
 
 abbrev lent : tie.Start → Buffers
 lent s = buffersOf (state (now (s .args .z)) (now (s .args .p))) (now (s .args .journal))
 
--- past the test an entry fits
-fits : (c : tie.Else1) → let a = start (c .before) .args in isFull (a .k) (now (a .journal)) ≡ false
-fits c = sym (c .before .is-full .ensures) ∙ c .if1 .left
+entry-number-requires : tie.Need-entry-number-requires
+entry-number-requires c κs =
+    let s = c .before .before .before .before .before in
+    rw (c .before .kind-written .ensures) (rw (target-is (s .args .f)) at (target-register _ _ (lent s .files) (s .pre .word)))
 
-is-full-requires : tie.Need-is-full-requires
-is-full-requires c κs =
-    let s = c .before .before .before .before in record { legal = legal-most _ (s .pre .word .lent .legal); header = s .pre .formed .least }
+may-name-requires : tie.Need-may-name-requires
+may-name-requires c κs = c .before .before .before .before .before .before .pre .formed .least
+
+-- where the function started
+abbrev start : tie.After-may-name → tie.Start
+start c = c .before .before .before .before .before .before .before
+
+-- whether an entry may name what the word writes is what was asked
+asked : (c : tie.After-may-name) → let a = start c .args in mayName (entryNumber (targetOf (a .f))) (now (a .journal)) ≡ c .may-name .result
+asked c =
+    let a = start c .args in
+    sym (c .may-name .ensures
+    ∙ ap (λ (n : ℕ). mayName n (now (a .journal))) (number-is (a .f) _ (c .before .before .before .kind-written .ensures) (c .before .entry-number .ensures)))
+
+named : (c : tie.Else1) → let a = start (c .before) .args in mayName (entryNumber (targetOf (a .f))) (now (a .journal)) ≡ true
+named c = asked (c .before) ∙ not-false _ (c .if1 .left)
+
+-- past the tests an entry fits
+fits : (c : tie.Else2) → let a = start (c .before .before .before .before) .args in isFull (a .k) (now (a .journal)) ≡ false
+fits c = sym (c .before .is-full .ensures) ∙ c .if2 .left
 
 returns : tie.Need-returns
 returns c =
     let s = start (c .before) in
-    full (s .args .k) (s .args .f) (lent s) (sym (c .before .is-full .ensures) ∙ c .if1 .taken)
+    unnamed (s .args .k) (s .args .f) (lent s) (asked (c .before) ∙ not-true _ (c .if1 .taken))
 
-carry-out-requires : tie.Need-carry-out-requires
-carry-out-requires c κs =
-    let e = c .before .before in
-    let s = start (e .before) in
-    record { word = s .pre .word; room = can-append (s .args .k) (s .args .f) (lent s) (s .pre) (fits e) }
+is-full-requires : tie.Need-is-full-requires
+is-full-requires c κs =
+    let s = start (c .before .before) in record { legal = legal-most _ (s .pre .word .lent .legal); header = s .pre .formed .least }
 
 returns-2 : tie.Need-returns-2
 returns-2 c =
-    let x = carried (c .before) in
-    let e = x .before .before .before in
+    let e = c .before .before .before in
     let s = start (e .before) in
-    carried-out (s .args .k) (s .args .f) (lent s) _ _ (s .pre .word) (fits e) (x .carry-out .ensures)
+    full (s .args .k) (s .args .f) (lent s) (named e) (sym (c .before .is-full .ensures) ∙ c .if2 .taken)
+
+carry-out-requires : tie.Need-carry-out-requires
+carry-out-requires c κs =
+    let e = c .before .before .before in
+    let asked-at = e .before .before .before .before in
+    let s = start asked-at in
+    let writes = asked-at .before .before .before .kind-written .ensures in
+    record { word = s .pre .word; writes = writes; room = rw writes (can-append-target (s .args .k) (s .args .f) (lent s) (s .pre) (fits e)) }
+
+returns-3 : tie.Need-returns-3
+returns-3 c =
+    let x = c .before .before .before .before .before .before in
+    let e = x .before .before .before .before in
+    let s = start (e .before .before .before .before) in
+    carried-out (s .args .k) (s .args .f) (lent s) _ (named (e .before .before .before)) (fits e) (x .carry-out .ensures)
 
 pub perform-spec : {M : Type 1} → statement M
 perform-spec =
     tie.close
     (tie.spec
-    is-full-requires
-    (λ c. search needs)
+    (λ c κs. search needs)
+    entry-number-requires
+    may-name-requires
+    (λ c. search needs)  -- same-length
     returns
+    is-full-requires
+    (λ c. search needs)  -- same-length-2
+    returns-2
     carry-out-requires
-    (λ c. search needs)
-    (λ c. search needs)
-    returns-2)
+    (λ c. search needs)  -- same-length-3
+    (λ c. search needs)  -- same-length-4
+    (λ c. search needs)  -- same-length-5
+    returns-3)

@@ -11,19 +11,19 @@ use Rattle.registers.specs.State.{state}
 use Rattle.programs.specs.Word.{wordAt}
 use Rattle.cores.specs.Core.{decodedOn}
 use Rattle.cores.proofs.Answers.{core-decodes}
-use Rattle.words.specs.Decode.{wordTests}
+use Rattle.words.specs.Decode.{fieldsOf, wordTests}
 use Rattle.words.specs.declared.Decoded.{Decoded}
 use Rattle.words.specs.declared.Decoded.the-variants.{Unknown, Undefined}
 use Rattle.journal.specs.Left.{Core, coreOf, Buffers, buffersOf, BytesIn}
 use Rattle.journal.specs.Calls.{startRefused}
 use Rattle.journal.proofs.Accepted.{Started, started}
-use Rattle.steps.specs.Calls.{wordNow, fullTests, Stepped}
+use Rattle.steps.specs.Calls.{wordNow, pastTests, Stepped}
 use Rattle.steps.proofs.Accepted.{start-refused, word-decides, word-performed, step-stood, executable}
 use Rattle.steps.proofs.step.Statement.{statement}
 use Rattle.steps.proofs.step.Tie as tie
 
 abbrev start : tie.After-check-step → tie.Start
-start c = c .before .before .before .before .before .before .before
+start c = c .before .before .before .before .before .before .before .before
 
 abbrev lent : tie.Start → Buffers
 lent s = buffersOf (state (now (s .args .z)) (now (s .args .p))) (now (s .args .journal))
@@ -36,9 +36,9 @@ core s = coreOf (s .args .k) (s .args .facts)
 bytes : (c : tie.After-check-step) → BytesIn (lent (start c))
 bytes c =
     record {
-      vectors = λ i. omega (arith, c .before .before .before .before .before .before .slice-known .given i);
-      predicates = λ i. omega (arith, c .before .before .before .before .before .shared-slice-known .given i);
-      entries = λ i. omega (arith, c .before .before .before .slice-known2 .given i);
+      vectors = λ i. omega (arith, c .before .before .before .before .before .before .before .slice-known .given i);
+      predicates = λ i. omega (arith, c .before .before .before .before .before .before .slice-known2 .given i);
+      entries = λ i. omega (arith, c .before .before .before .before .slice-known3 .given i);
     }
 
 abbrev passed : tie.After-decode → tie.Else1
@@ -48,11 +48,11 @@ abbrev first : tie.After-decode → tie.Start
 first c = start (passed c .before)
 
 -- where the word's fields are known, and where it is performed
-abbrev found : tie.After-perform-arg2 → tie.After-decoded
-found c = c .before .before .before
+abbrev found : tie.After-perform-arg3 → tie.After-decoded
+found c = c .before .before .before .before
 
 abbrev performed : tie.After-journal → tie.After-perform
-performed c = c .before .before .before
+performed c = c .before .before .before .before .before
 
 -- past the early refusals
 begun : (c : tie.Else1) → let s = start (c .before) in startRefused (s .args .k) (now (s .args .program)) (lent s) ≡ 0
@@ -95,7 +95,7 @@ perform-requires c κs =
 
 -- a word that refuses, refuses the step
 refusing : (d : tie.After-decode) (x : Decoded) (r : ℕ) → d .decode .result ≡ x
-    → r ≡ refused (wordTests x ++ fullTests (first d .args .k) (now (first d .args .journal)))
+    → r ≡ refused (wordTests x ++ pastTests (first d .args .k) (fieldsOf x) (now (first d .args .journal)))
     → (r ≡ 0 → ⊥)
     → Stepped (core (first d)) (now (first d .args .program)) (lent (first d)) r (lent (first d))
 refusing d x r is number h =
@@ -132,6 +132,7 @@ step-spec =
     (λ c κs. search needs)  -- check-step-requires
     (λ c. search needs)  -- same-length
     (λ c. search needs)  -- same-length-2
+    (λ c. search needs)  -- same-length-3
     returns
     position-of-requires
     word-at-requires
@@ -140,12 +141,15 @@ step-spec =
     (λ c. search needs)  -- enum-told-2
     (λ c. search needs)  -- enum-known-decoded
     perform-requires
-    (λ c. search needs)  -- same-length-3
     (λ c. search needs)  -- same-length-4
-    returns-2
     (λ c. search needs)  -- same-length-5
     (λ c. search needs)  -- same-length-6
-    returns-3
+    returns-2
     (λ c. search needs)  -- same-length-7
     (λ c. search needs)  -- same-length-8
+    (λ c. search needs)  -- same-length-9
+    returns-3
+    (λ c. search needs)  -- same-length-10
+    (λ c. search needs)  -- same-length-11
+    (λ c. search needs)  -- same-length-12
     returns-4)

@@ -9,6 +9,7 @@ use Rattle.registers.specs.State.{State, state}
 use Rattle.lanes.specs.Lane.{widthOf}
 use Rattle.rows.specs.Table.{formOf}
 use Rattle.words.specs.declared.Fields.{Fields}
+use Rattle.words.proofs.Decoding.{size-in}
 use Rattle.rows.specs.declared.Parameters.{Parameters}
 use Rattle.rows.specs.declared.Family.the-variants.{Wide}
 use Rattle.rows.specs.declared.WideFamily.{WideFamily}
@@ -55,7 +56,7 @@ pub write-lanes-spec : {M : Type 1} → statement M
 write-lanes-spec =
     tie.close
     (tie.spec
-    (λ c κs. search needs)  -- width-of-requires
+    (λ c κs. size-in (c .before .before .pre .0 .word .fields))  -- width-of-requires
     (λ c. search needs)  -- enum-told
     (λ c κs. pairwise-arm (c .before .before) 2 (omega arith))  -- write-turns-requires
     (λ c κs. pairwise-arm (c .before .before) 4 (omega arith))  -- write-turns-requires-2

@@ -3,6 +3,7 @@
 -- Assumes nothing.
 use borrow.Author.Needs.{needs}
 use mathlib.Core.Path.{_∙_, ap}
+use Rattle.words.proofs.Decoding.{destination-in, source-in}
 use Rattle.lanes.specs.Integer.{residue}
 use Rattle.rows.specs.declared.WideFamily.the-variants.{Pairwise}
 use Rattle.meaning.proofs.Sizes.{governing-in, vector-in}
@@ -21,17 +22,17 @@ register-requires : tie.Need-register-requires
 register-requires c κs = governing-in _ _ _ (c .before .before .pre .lanes .word .word)
 
 register-requires-2 : tie.Need-register-requires-2
-register-requires-2 c κs = let h = begin (c .before) .pre .lanes .word .word in vector-in _ _ _ h _ (h .fields .n)
+register-requires-2 c κs = let h = begin (c .before) .pre .lanes .word .word in vector-in _ _ _ h _ (source-in (h .fields))
 
 register-requires-3 : tie.Need-register-requires-3
-register-requires-3 c κs = let h = begin (c .before .before) .pre .lanes .word .word in vector-in _ _ _ h _ (h .fields .d)
+register-requires-3 c κs = let h = begin (c .before .before) .pre .lanes .word .word in vector-in _ _ _ h _ (destination-in (h .fields))
 
 pairwise-lane-requires : tie.Need-pairwise-lane-requires
 pairwise-lane-requires c κs =
     let h = begin (mask c) .pre in
     let x = h .lanes .word .word in (
-      holds _ _ _ _ _ _ Pairwise h _ _ (x .fields .n) (c .before .register2 .ensures),
-      holds _ _ _ _ _ _ Pairwise h _ _ (x .fields .d) (c .register3 .ensures),
+      holds _ _ _ _ _ _ Pairwise h _ _ (source-in (x .fields)) (c .before .register2 .ensures),
+      holds _ _ _ _ _ _ Pairwise h _ _ (destination-in (x .fields)) (c .register3 .ensures),
       governed _ _ _ _ _ _ Pairwise h _ _ (mask c .register .ensures) (c .register3 .ensures),
     )
 

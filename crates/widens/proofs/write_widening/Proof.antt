@@ -2,6 +2,7 @@
 -- Assumes nothing.
 use borrow.Author.Needs.{needs}
 use mathlib.Core.Path.{_∙_, ap}
+use Rattle.words.proofs.Decoding.{source-in}
 use Rattle.lanes.specs.Integer.{residue}
 use Rattle.rows.specs.declared.WideFamily.the-variants.{Widening}
 use Rattle.meaning.proofs.Sizes.{vector-in, second-most}
@@ -17,7 +18,7 @@ abbrev begin : tie.After-register → tie.Start
 begin c = lent (c .before)
 
 register-requires : tie.Need-register-requires
-register-requires c κs = let h = lent c .pre .lanes .word .word in vector-in _ _ _ h _ (h .fields .n)
+register-requires c κs = let h = lent c .pre .lanes .word .word in vector-in _ _ _ h _ (source-in (h .fields))
 
 register-requires-2 : tie.Need-register-requires-2
 register-requires-2 c κs = let h = begin c .pre .lanes .word .word in vector-in _ _ _ h _ (second-most _ _ _ h)
@@ -26,7 +27,7 @@ widening-lane-requires : tie.Need-widening-lane-requires
 widening-lane-requires c κs =
     let h = begin (c .before) .pre in
     let x = h .lanes .word .word in
-    (holds _ _ _ _ _ _ Widening h _ _ (x .fields .n) (c .before .register .ensures), holds _ _ _ _ _ _ Widening h _ _ (second-most _ _ _ x) (c .register2 .ensures))
+    (holds _ _ _ _ _ _ Widening h _ _ (source-in (x .fields)) (c .before .register .ensures), holds _ _ _ _ _ _ Widening h _ _ (second-most _ _ _ x) (c .register2 .ensures))
 
 write-lane-requires : tie.Need-write-lane-requires
 write-lane-requires c κs = placed _ _ _ _ _ _ Widening (begin (c .before .before .before) .pre)

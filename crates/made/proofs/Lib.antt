@@ -1,0 +1,5 @@
+pub mod Bits
+pub mod Bytes
+pub mod Each
+pub mod Made
+pub mod Literals
