@@ -4,3 +4,4 @@ pub mod Ends
 pub mod Back
 pub mod Assembling
 pub mod Theorems
+pub mod Literals

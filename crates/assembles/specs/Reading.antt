@@ -1,5 +1,6 @@
 -- What the assembler reads in a text, whatever its bytes are: the row by its first six bytes, the size by its last or by the letter before a
--- pattern, the numbers after the first letter of each operand, and the pattern after the second space. Of a text of an accepted word these make the word; of any other text nothing is promised of them.
+-- pattern, the numbers after the first letter of each operand, and the pattern after the second space. Of a text of an
+-- accepted word these make the word; of any other text nothing is promised of them.
 use Prim.Native.Nat.{ℕ, zero, suc, _+_, _%_, _^_}
 use mathlib.Core.List.{List}
 use lib.ListN.{length}

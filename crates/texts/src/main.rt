@@ -6,6 +6,7 @@ use facts::Facts;
 use libc::STDOUT_FILENO;
 use machine::Length;
 use machine::refusal;
+use patterns::PATTERNS;
 use rows::ROWS;
 ghost use Prim.Native.Nat.{_<_};
 ghost use Rattle.machine.specs.Size.{sizes};
@@ -28,6 +29,9 @@ const WORDS: [u32; COUNT] = [
     0,
     0xFFFFFFFF,
 ];
+
+// The word of `ptrue p0.b, pow2`, whose other patterns have further digits.
+const PTRUE: u32 = 0x2518E000;
 
 // The word of a row with a size and every other field at its least, or at its most.
 fn word_of(row: usize, size: u32, most: bool) -> u32
@@ -73,9 +77,20 @@ fn number_on(byte: u8, word: u32) -> u8 {
     names::text(word, facts::facts_of(byte), &mut out).number
 }
 
-// A row's line: its word of size 1, and the number that naming it answers on each core, whose facts are the bits of 0 to 31.
+// The size of a row's word that is named on each core: 1, or 0 where its words have no other.
+fn size_on_each(row: usize) -> u32
+    ensures { λ r. ⌜ r < sizes ⌝ }
+{
+    if words::size_digits(rows::family_of(row)) == 0 {
+        0
+    } else {
+        1
+    }
+}
+
+// A row's line: a word of it, and the number that naming it answers on each core, whose facts are the bits of 0 to 31.
 fn show_needs(row: usize) {
-    let word = word_of(row, 1, false);
+    let word = word_of(row, size_on_each(row), false);
     io::print_hex(STDOUT_FILENO, word as u64, 8);
     io::write_all(STDOUT_FILENO, b" ");
     for byte in 0..facts::ALL + 1 {
@@ -96,6 +111,13 @@ fn show_rows() {
 fn show_words() {
     for i in 0..COUNT {
         show_word(WORDS[i]);
+    }
+}
+
+// The lines of every pattern.
+fn show_patterns() {
+    for pattern in 0..PATTERNS as u32 {
+        show_word(PTRUE | (pattern << words::place::PATTERN));
     }
 }
 
@@ -161,6 +183,36 @@ fn show_misfits() {
     show_text(b"ssubv d0, p0, z1.b");
 }
 
+// Texts that are nearly one of a made predicate.
+fn show_made_misses() {
+    show_text(b"ptrue p0.b");
+    show_text(b"ptrue p0.b,");
+    show_text(b"ptrue p0.b, ");
+    show_text(b"ptrue p0.b, #31");
+    show_text(b"ptrue p0.b, #5");
+    show_text(b"ptrue p0.b, #32");
+    show_text(b"ptrue p0.b, #0x1f");
+    show_text(b"ptrue p0.b, 14");
+    show_text(b"ptrue p0.b, vl9");
+    show_text(b"ptrue p0.b, vl016");
+    show_text(b"ptrue p0.b, ALL");
+    show_text(b"ptrue p0.b,all");
+    show_text(b"ptrue p0.b,  all");
+    show_text(b"ptrue p0.b, all ");
+    show_text(b"ptrue p0.b all");
+    show_text(b"ptrue p0.b, all, all");
+    show_text(b"ptrue p0, all");
+    show_text(b"ptrue p0.q, all");
+    show_text(b"ptrue p00.b, all");
+    show_text(b"ptrue p16.b, all");
+    show_text(b"ptrue z0.b, all");
+    show_text(b"ptrues p0.b, all");
+    show_text(b"pfalse p3.h");
+    show_text(b"pfalse p3");
+    show_text(b"pfalse p16.b");
+    show_text(b"pfalse p3.b, all");
+}
+
 // A text of 10,000 bytes: its line has the number alone.
 fn show_long() {
     let text = [b'z'; 10000];
@@ -178,13 +230,17 @@ fn show_texts_on(facts: Facts) {
     show_text_on(facts, b"uaddlv h2, v1.8b");
     show_text_on(facts, b"sadalp z0.h, p0/m, z1.b");
     show_text_on(facts, b"usubwt z0.h, z1.h, z2.b");
+    show_text_on(facts, b"ptrue p3.h, vl16");
+    show_text_on(facts, b"pfalse p3.b");
 }
 
 fn main() {
     show_rows();
     show_words();
+    show_patterns();
     show_near_misses();
     show_misfits();
+    show_made_misses();
     show_long();
     show_texts_on(facts::none());
     show_texts_on(facts::facts_of(facts::bit::SVE));

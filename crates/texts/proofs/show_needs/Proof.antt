@@ -18,6 +18,7 @@ show-needs-spec =
     (tie.spec
     Inv-loop
     μ-loop
+    (λ c κs. search needs)  -- size-on-each-requires
     (λ c κs. search needs)  -- word-of-requires
     (λ c. search needs)  -- cast-print-hex
     (λ c κs. search needs)  -- print-hex-requires
