@@ -23,12 +23,12 @@ use Rattle.totals.specs.Calls.{panelRefused, panelAnswer, subtotalAnswer}
 use Rattle.totals.proofs.Accepted.{panel-done, panel-accepted, whole-segments}
 use Rattle.totals.proofs.Answers.{subtotal-of-all}
 use Rattle.sums.proofs.Columns.{addqv-is-column-sums}
-use Rattle.meaning.specs.Execute.{targetOf, operandsOf, maskOf, destinationAfter, writtenFor, executed}
+use Rattle.meaning.specs.Execute.{kindWritten, targetOf, operandsOf, maskOf, destinationAfter, writtenFor, executed}
 use Rattle.meaning.specs.Terms.{Operand1}
 use Rattle.meaning.specs.Needs.{Executable}
 use Rattle.meaning.proofs.Effects.{operand-bytes, mask-bytes, effect-bytes, executed-reads}
 use Rattle.registers.proofs.Padded.{padded-padded}
-use Rattle.meaning.proofs.Sizes.{k-least, low-written-fits}
+use Rattle.meaning.proofs.Sizes.{k-least, vector-destination, low-written-fits}
 use Rattle.meaning.proofs.Summed.{reduction-sum}
 use Rattle.meaning.proofs.LowWritten.{written-segment}
 use Rattle.demands.proofs.Exact.{answer-modulo}
@@ -72,6 +72,7 @@ module _ (f : Fields) (k : ℕ) (s : State) (x : Executable f k s) where
       (fromLanes (widthOf (f .size)) 0 (perSegment (widthOf (f .size))) (rowsSum (widthOf (f .size)) (panelAnswer k (s .z) (s .p) (f .n) (f .g) (f .size))))
   addqv-adds-the-panel is =
       register-after
+      ∙ vector-destination f k s (ap kindWritten is)
       ∙ sym (padded-padded segmentBytes (vectorBytes k) (writtenFor f k s) (low-written-fits f k s x Segment is) (omega (arith, k-least f k s x)))
       ∙ ap (padded (vectorBytes k))
       (sym (written-segment f k s x is)

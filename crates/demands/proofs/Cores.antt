@@ -26,7 +26,7 @@ use Rattle.assembles.specs.Assembled.{ReadsAs, Assembled}
 use Rattle.assembles.proofs.Theorems.{reads-once, text-exactly}
 use Rattle.journal.specs.Left.{coreOf, Buffers}
 use Rattle.journal.specs.Calls.{startTests}
-use Rattle.steps.specs.Calls.{wordNow, fullTests, stepped, stepBy}
+use Rattle.steps.specs.Calls.{wordNow, testsBy, stepped, stepBy}
 use Rattle.steps.proofs.Accepted.{step-number, step-by, step-accepted}
 
 -- with all facts the tests of a name, of a line and of a step ask what a word decodes to, and nothing of the core
@@ -40,10 +40,10 @@ line-on-all k s program position number n =
     ap (λ (d : Decoded). refused (placedTests k s program position n ++ onlyWhere (eqb number DONE) (wordTests d))) (on-all (wordAt program position))
 
 pub step-on-all : (k : ℕ) (program : List ℕ) (b : Buffers) → stepped (coreOf k allFacts) program b .number
-    ≡ refused (startTests k program b ++ wordTests (decoded (wordNow program (b .journal))) ++ fullTests k (b .journal))
+    ≡ refused (testsBy k program b (decoded (wordNow program (b .journal))))
 step-on-all k program b =
     step-number (coreOf k allFacts) program b
-    ∙ ap (λ (d : Decoded). refused (startTests k program b ++ wordTests d ++ fullTests k (b .journal))) (on-all (wordNow program (b .journal)))
+    ∙ ap (λ (d : Decoded). refused (testsBy k program b d)) (on-all (wordNow program (b .journal)))
 
 -- and a text is assembled to the word that is accepted at all and reads so
 pub reads-on-all : (word : ℕ) (text : List ℕ) → ReadsAs allFacts word text
@@ -60,7 +60,7 @@ module _ (k : ℕ) (program : List ℕ) (b : Buffers) where
 
   -- the refusal of a step, by what its word decodes to on the core
   abbrev refusalBy : Decoded → ℕ
-  refusalBy d = refused (startTests k program b ++ wordTests d ++ fullTests k (b .journal))
+  refusalBy d = refused (testsBy k program b d)
 
   -- a step asks of the core what its word decodes to there, and nothing else
   same-step : (a o : Facts) → decodedOn a word ≡ decodedOn o word → stepped (coreOf k a) program b ≡ stepped (coreOf k o) program b

@@ -27,7 +27,7 @@ use Rattle.words.proofs.Decoding.{q-below, size-in}
 use Rattle.words.specs.declared.Fields.{Fields}
 use Rattle.rows.specs.declared.Parameters.{Parameters}
 use Rattle.rows.specs.declared.Family.{Family}
-use Rattle.rows.specs.declared.Family.the-variants.{Low, Wide}
+use Rattle.rows.specs.declared.Family.the-variants.{Low, Wide, Made}
 use Rattle.rows.specs.declared.LowFamily.the-variants.{Reduction, Segment, Long}
 use Rattle.rows.specs.declared.WideFamily.the-variants.{Pairwise, Widening}
 use Rattle.sums.proofs.Widths.{width-legal}
@@ -37,7 +37,7 @@ use Rattle.meaning.specs.Execute.{operandsOf, maskOf, feeds, integerAfter, widt
 use Rattle.meaning.specs.Needs.{Executable}
 use Rattle.meaning.specs.Theorems.{isExact, answerSigned}
 use Rattle.meaning.proofs.Effects.{sourceField, operand-bytes}
-use Rattle.meaning.proofs.Sizes.{false-not-true, k-most}
+use Rattle.meaning.proofs.Sizes.{false-not-true, k-most, vector-destination, lanes-of-vectors}
 
 -- a term may be read as signed whatever it is, and as unsigned if it is unsigned and added
 abbrev Reads : Bool → Term → Type 0
@@ -126,6 +126,7 @@ few-terms (Low Long) ps k q size mask e km ql sl ex = record {
   room = omega (arith, width-legal size sl .0);
 }
 few-terms (Wide Pairwise) ps k q size mask e km ql sl ex = absurd (false-not-true ex)
+few-terms (Made made) ps k q size mask e km ql sl ex = absurd (false-not-true ex)
 few-terms (Wide Widening) ps k q size mask e km ql sl ex = record {
   width = widthOf size / 2;
   power = 1;
@@ -155,7 +156,8 @@ module _ (f : Fields) (k : ℕ) (s : State) where
   -- every lane that a word writes holds the sum of what feeds it modulo 2^width
   pub answer-modulo : (e : ℕ) → e < lanesFor f k → lane (widthFor f) e (destinationAfter f k s) ≡ residue (bitsOf (widthFor f)) (integerAfter f k s e)
   answer-modulo e h =
-      read-lane (widthFor f) 0 (lanesFor f k) e (λ (i : ℕ). residue (bitsOf (widthFor f)) (integerAfter f k s i)) (replicate (vectorBytes k - length (writtenFor f k s)) 0) h
+      ap (lane (widthFor f) e) (vector-destination f k s (lanes-of-vectors (familyOf (f .row)) (widthOf (f .size)) (vectorBytes k) e h))
+      ∙ read-lane (widthFor f) 0 (lanesFor f k) e (λ (i : ℕ). residue (bitsOf (widthFor f)) (integerAfter f k s i)) (replicate (vectorBytes k - length (writtenFor f k s)) 0) h
       ∙ rw (zero-add e) (mod-eq-of-lt (residue-lt (bitsOf (widthFor f)) (integerAfter f k s e)))
 
   -- read at its sign it is exact: saddv, uaddv below 64 bits, saddlv, uaddlv, the long sums, and as signed numbers the long differences

@@ -1,7 +1,9 @@
 pub mod Exact
 pub mod Matter
 pub mod Calls
+pub mod Summed
 pub mod Step
+pub mod Made
 pub mod Shapes
 pub mod Told
 pub mod Cores

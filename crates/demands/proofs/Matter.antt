@@ -4,7 +4,7 @@
 -- another register than the source.
 -- Assumes nothing.
 use Prim.Native.Nat.{ℕ, zero, suc, _+_, _*_, _/_, _≤_, _<_}
-use mathlib.Core.Path.{_≡_, refl, ap, ap₂}
+use mathlib.Core.Path.{_≡_, refl, sym, _∙_, ap, ap₂}
 use mathlib.Core.Bool.{Bool, true, false}
 use mathlib.Core.List.{List, [], _∷_}
 use native.Mathlib.Omega.{arith}
@@ -14,6 +14,7 @@ use Rattle.machine.specs.Size.{vectorBytes, segmentBytes}
 use Rattle.machine.proofs.Places.{place-within}
 use Rattle.parts.specs.Number.{bitsOf}
 use Rattle.registers.specs.Register.{padded}
+use Rattle.registers.specs.declared.Kind.the-variants.{Vector}
 use Rattle.registers.specs.State.{State, read}
 use Rattle.lanes.specs.Lane.{widthOf, active}
 use Rattle.lanes.specs.Integer.{residue}
@@ -25,7 +26,7 @@ use Rattle.words.specs.declared.Fields.{Fields}
 use Rattle.words.proofs.Decoding.{size-in}
 use Rattle.rows.specs.declared.Parameters.{Parameters}
 use Rattle.rows.specs.declared.Family.{Family}
-use Rattle.rows.specs.declared.Family.the-variants.{Low, Wide}
+use Rattle.rows.specs.declared.Family.the-variants.{Low, Wide, Made}
 use Rattle.rows.specs.declared.LowFamily.the-variants.{Reduction, Segment, Long}
 use Rattle.rows.specs.declared.WideFamily.the-variants.{Pairwise, Widening}
 use Rattle.sums.specs.Sums.{Governed, AgreeAt}
@@ -35,12 +36,12 @@ use Rattle.sums.proofs.Matters.{same-active}
 use Rattle.sums.proofs.Rows.{lane-inside, lane-place}
 use Rattle.meaning.specs.Terms.{Operands, Operand1, Term, elementAdded, sumOf, governedTerm}
 use Rattle.meaning.specs.Meaning.{familyTerms, lanesAfter}
-use Rattle.meaning.specs.Execute.{targetOf, operandsOf, maskOf, feeds, integerAfter, widthFor, lanesFor, destinationAfter}
+use Rattle.meaning.specs.Execute.{kindWritten, targetOf, operandsOf, maskOf, feeds, integerAfter, widthFor, lanesFor, destinationAfter}
 use Rattle.meaning.specs.Needs.{Executable}
 use Rattle.meaning.specs.Theorems.{isGoverned, governedOf, Agree}
 use Rattle.elements.proofs.Halves.{element-same, half-same}
 use Rattle.meaning.proofs.Effects.{old-is-target, operand-length}
-use Rattle.meaning.proofs.Sizes.{false-not-true, whole, wide-halves}
+use Rattle.meaning.proofs.Sizes.{false-not-true, whole, wide-halves, vector-destination, governed-vectors}
 
 module _ (o o′ : Operands) where
   -- two terms are active in both or in neither, and add the same where they are
@@ -108,6 +109,7 @@ module _ (w bytes : ℕ) (a b : Governed) (o o′ : Operands) (first : o .operan
       half : (i : ℕ) → i ≤ 1 → active w e (a .predicate) ≡ true → element (ps .signed) (w / 2) (o .operand1) (2 * e + i) ≡ element (ps .signed) (w / 2) (o′ .operand1) (2 * e + i)
       half i m = half-term (ps .signed) e i (halves Pairwise refl) m inside
   same-feeds (Wide Widening) ps q e g fills whole halves old l = absurd (false-not-true g)
+  same-feeds (Made made) ps q e g fills whole halves old l = absurd (false-not-true g)
 
 -- two states that agree at the predicate bits e·w and at the active source lanes, and for a pairwise accumulate at the old destination,
 -- have the same destination after a governed word
@@ -116,11 +118,16 @@ pub only-active-matters : (f : Fields) (k : ℕ) (s s′ : State) → Executable
     → (familyOf (f .row) ≡ Wide Pairwise → read k (targetOf f) s ≡ read k (targetOf f) s′)
     → destinationAfter f k s ≡ destinationAfter f k s′
 only-active-matters f k s s′ x x′ g agree old =
-    ap (padded (vectorBytes k))
+    vector-destination f k s vectors
+    ∙ ap (padded (vectorBytes k))
     (same-lanes (widthFor f) 0 (lanesFor f k) (λ (e : ℕ). residue (bitsOf (widthFor f)) (integerAfter f k s e)) (λ (e : ℕ). residue (bitsOf (widthFor f)) (integerAfter f k s′ e))
     (λ e l h. ap (residue (bitsOf (widthFor f)))
     (same-sum (operandsOf f k s) (operandsOf f k s′) (feeds f k (maskOf f k s) e) (feeds f k (maskOf f k s′) e) (same e (omega arith)))))
+    ∙ sym (vector-destination f k s′ vectors)
   where
+    vectors : kindWritten (familyOf (f .row)) ≡ Vector
+    vectors = governed-vectors (familyOf (f .row)) g
+
     same : (e : ℕ) → e < lanesFor f k → SameTerms (operandsOf f k s) (operandsOf f k s′) (feeds f k (maskOf f k s) e) (feeds f k (maskOf f k s′) e)
     same e h =
         same-feeds (widthOf (f .size)) (vectorBytes k) (governedOf f k s) (governedOf f k s′) (operandsOf f k s) (operandsOf f k s′) refl refl
@@ -135,5 +142,5 @@ only-active-matters f k s s′ x x′ g agree old =
         (width-legal (f .size) (size-in (x .fields)) .2)
         (whole k (f .size) (size-in (x .fields)))
         (wide-halves f k s x)
-        (λ is. rw (old-is-target f) (old is))
+        (λ is. rw (old-is-target f vectors) (old is))
         h

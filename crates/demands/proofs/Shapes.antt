@@ -4,7 +4,7 @@
 use Prim.Native.Nat.{ℕ, zero, suc, _+_, _*_, _-_, _/_, _≤_, _<_}
 use mathlib.Core.Path.{_≡_, refl, sym}
 use mathlib.Core.Bool.{Bool, true, false, cond}
-use mathlib.Core.List.{List, [], _∷_}
+use mathlib.Core.List.{List}
 use native.Mathlib.Omega.{arith}
 use lib.Dec.{ltb}
 use Rattle.machine.specs.Size.{sizes, vectorBytes, segmentBytes}
@@ -19,7 +19,7 @@ use Rattle.rows.specs.declared.LowFamily.the-variants.{Reduction, Segment, Long
 use Rattle.rows.specs.declared.WideFamily.{WideFamily}
 use Rattle.rows.specs.declared.WideFamily.the-variants.{Pairwise, Widening}
 use Rattle.sums.specs.Panel.{perSegment}
-use Rattle.words.specs.Field.{secondDigits}
+use Rattle.words.specs.Field.{sourceDigits, secondDigits}
 use Rattle.totals.specs.Calls.{lanesAt}
 use Rattle.about.specs.Widths.{familyBytes}
 use Rattle.about.specs.About.{readsDestination}
@@ -63,7 +63,7 @@ operandFor Old = Destination
 
 -- whether a family's words name an operand, and the sign at which they read it
 abbrev pub namedBy : Family → Source → Bool
-namedBy family Operand1 = true
+namedBy family Operand1 = ltb 0 (sourceDigits family)
 namedBy family Operand2 = ltb 0 (secondDigits family)
 namedBy family Old = readsDestination family
 

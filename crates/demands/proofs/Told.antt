@@ -2,12 +2,14 @@
 -- are those of its words' terms, each term's lane is told, and the last entry's bytes are those that are put back.
 -- Assumes nothing.
 use Prim.Native.Nat.{ℕ, zero, suc, _+_, _-_, _≤_, _<_}
+use mathlib.Core.Logic.{_↔_}
+use Rattle.registers.specs.declared.Kind.the-variants.{Predicate}
 use mathlib.Core.Path.{_≡_, refl, sym, _∙_, ap, ap₂}
 use mathlib.Core.Bool.{Bool, true, false, not}
 use mathlib.Core.List.{List, [], _∷_}
 use native.Mathlib.Omega.{arith}
 use lib.Dec.{leb}
-use lib.ListN.{length, take, drop, getD}
+use lib.ListN.{take, drop, getD}
 use lib.Seq.{take-take}
 use borrow.Author.Tests.{not-true, leb-true}
 use Rattle.parts.specs.Part.{part}
@@ -28,7 +30,7 @@ use Rattle.rows.proofs.Every.{every, at-each}
 use Rattle.rows.specs.declared.Form.{Form}
 use Rattle.rows.specs.declared.Parameters.{Parameters}
 use Rattle.rows.specs.declared.Family.{Family}
-use Rattle.rows.specs.declared.Family.the-variants.{Low, Wide}
+use Rattle.rows.specs.declared.Family.the-variants.{Low, Wide, Made}
 use Rattle.rows.specs.declared.LowFamily.{LowFamily}
 use Rattle.rows.specs.declared.LowFamily.the-variants.{Reduction, Segment, Long}
 use Rattle.rows.specs.declared.WideFamily.the-variants.{Pairwise, Widening}
@@ -47,18 +49,18 @@ use Rattle.totals.specs.declared.Lane.{Lane}
 use Rattle.totals.proofs.Accepted.{Accepted}
 use Rattle.totals.proofs.Lanes.{lane-is-told}
 use Rattle.about.specs.Widths.{familyBytes, allowsSome, bytesAt, bytesBySize}
-use Rattle.about.specs.About.{readsDestination, rowTold, aboutAnswer}
-use Rattle.about.proofs.Answers.{row-is-told, sign-told, governing-told, second-told, reads-told}
+use Rattle.about.specs.About.{readsDestination, rowTold, aboutAnswer, writesPredicate}
+use Rattle.about.proofs.Answers.{row-is-told, sign-told, governing-told, second-told, reads-told, source-told, writes-told}
 use Rattle.about.specs.declared.About.{About}
 use Rattle.about.specs.declared.Operand.{Operand}
 use Rattle.about.specs.declared.Operand.the-variants.{Destination}
 use Rattle.meaning.specs.Terms.{Source, Operand1, Operand2, Old, Term, operandOf}
 use Rattle.meaning.specs.Meaning.{familyTerms, widthAfter, lanesAfter}
-use Rattle.meaning.specs.Execute.{sourceOf, governingOf, operandsOf, maskOf, feeds, widthFor, lanesFor}
+use Rattle.meaning.specs.Execute.{sourceOf, governingOf, operandsOf, maskOf, feeds, widthFor, lanesFor, kindWritten, targetOf}
 use Rattle.meaning.specs.Needs.{Executable}
 use Rattle.meaning.specs.Theorems.{isGoverned}
 use Rattle.meaning.proofs.Sizes.{k-least}
-use Rattle.meaning.proofs.Effects.{sourceField, source-is, source-below, governing-is, operand-bytes, mask-bytes}
+use Rattle.meaning.proofs.Effects.{sourceField, source-is, source-below, governing-is, operand-bytes, mask-bytes, target-is}
 use Rattle.entries.specs.Layout.{Entry, versionOf, heldOf, entryAt, lastEntry}
 use Rattle.entries.specs.Restored.{restored}
 use Rattle.entries.proofs.Versions.{greatest-register}
@@ -101,6 +103,7 @@ written-bytes (Low Segment) wide w = refl
 written-bytes (Low Long) wide w = refl
 written-bytes (Wide Pairwise) wide w = refl
 written-bytes (Wide Widening) wide w = refl
+written-bytes (Made made) wide w = refl
 
 -- addqv's row, computed over the table: its elements have no sign
 abbrev isSegment : Family → Bool
@@ -108,6 +111,7 @@ isSegment (Low Reduction) = false
 isSegment (Low Segment) = true
 isSegment (Low Long) = false
 isSegment (Wide wide) = false
+isSegment (Made made) = false
 
 segments-unsigned : every rows (λ i. either (not (isSegment (familyOf i))) (not (formOf i .parameters .signed))) ≡ true
 unfolding rowAt
@@ -125,6 +129,7 @@ shaped (Low low) ps size q k mask e unsigned small few some allowed lies =
     low-shaped ps size small k mask e low q (λ is. unsigned (ap (λ (l : LowFamily). isSegment (Low l)) is)) few some lies
 shaped (Wide wide) ps size q k mask e unsigned small few some allowed lies =
     wide-shaped ps size small k mask e (leb-true 1 size (both-left (leb 1 size) (leb size 3) allowed)) lies wide q
+shaped (Made made) ps size q k mask e unsigned small few some allowed lies = tt
 
 -- what holds of each term is turned into what follows from it
 each-follows : (P Q : Term → Type 0) → ((t : Term) → P t → Q t) → (ts : List Term) → Each P ts → Each Q ts
@@ -152,9 +157,19 @@ module _ (f : Fields) (k : ℕ) (s : State) (x : Executable f k s) where
   pub row-writes : bytesTold (aboutAnswer (f .row)) Old (f .size) ≡ widthFor f
   row-writes = told-bytes Old ∙ written-bytes (familyOf (f .row)) (formOf (f .row) .parameters .wide) (widthOf (f .size))
 
+  -- a word's row is told to write a predicate exactly where its word writes one
+  pub kind-told : aboutAnswer (f .row) .«writes_predicate» ≡ true ↔ targetOf f .kind ≡ Predicate
+  kind-told =
+      rw (writes-told (f .row) (x .fields .row), target-is f) (by (familyOf (f .row)))
+    where
+      by : (family : Family) → writesPredicate family ≡ true ↔ kindWritten family ≡ Predicate
+      by (Low low) = (λ e. cc, λ e. cc)
+      by (Wide wide) = (λ e. cc, λ e. cc)
+      by (Made made) = (λ e. refl, λ e. refl)
+
   -- by the operand: it is named, and read at its sign, as is told of the row
   named-told : (source : Source) → namedTold (aboutAnswer (f .row)) source ≡ namedBy (familyOf (f .row)) source
-  named-told Operand1 = refl
+  named-told Operand1 = source-told (f .row) (x .fields .row)
   named-told Operand2 = second-told (f .row) (x .fields .row)
   named-told Old = reads-told (f .row) (x .fields .row)
 

@@ -13,7 +13,7 @@ use Rattle.machine.specs.Size.{vectorBytes, segmentBytes}
 use Rattle.machine.specs.Refusal.{DONE, UNKNOWN, UNDEFINED, OUT, TEXT, SESSION, Test, inOrder, First}
 use Rattle.machine.specs.declared.Answer.{Answer}
 use Rattle.registers.specs.declared.Kind.{Kind}
-use Rattle.registers.specs.Register.{vector, vectorOf, predicateOf}
+use Rattle.registers.specs.Register.{registerFrom, vectorOf, predicateOf}
 use Rattle.registers.specs.State.{State, read}
 use Rattle.lanes.specs.Lane.{widthOf, lane, active}
 use Rattle.lanes.specs.Integer.{integer, residue}
@@ -22,7 +22,8 @@ use Rattle.rows.specs.Digits.{wordDigits}
 use Rattle.rows.specs.Table.{rows, rowAt, matches, formOf, familyOf}
 use Rattle.rows.specs.declared.Parameters.{Parameters}
 use Rattle.rows.specs.declared.Family.{Family}
-use Rattle.rows.specs.declared.Family.the-variants.{Low, Wide}
+use Rattle.rows.specs.declared.Family.the-variants.{Low, Wide, Made}
+use Rattle.rows.specs.declared.MadeFamily.{MadeFamily}
 use Rattle.rows.specs.declared.LowFamily.the-variants.{Reduction, Segment, Long}
 use Rattle.rows.specs.declared.WideFamily.the-variants.{Pairwise, Widening}
 use Rattle.facts.specs.declared.Facts.{Facts}
@@ -48,7 +49,7 @@ use Rattle.about.specs.declared.About.{About}
 use Rattle.names.specs.Named.{leastOut, nameTests, Named}
 use Rattle.assembles.specs.Assembled.{ReadsAs, Assembled}
 use Rattle.meaning.specs.Terms.{negatedWhere, dataBytes, selected}
-use Rattle.meaning.specs.Execute.{targetOf, executed, destinationAfter, integerAfter, widthFor, lanesFor}
+use Rattle.meaning.specs.Execute.{kindWritten, targetOf, executed, destinationAfter, integerAfter, widthFor, lanesFor}
 use Rattle.meaning.specs.Theorems.{isExact, answerSigned, isGoverned, governedOf, Agree}
 use Rattle.entries.specs.Layout.{heldOf, positionOf}
 use Rattle.journal.specs.Left.{Core, Buffers}
@@ -61,6 +62,7 @@ use Rattle.session.specs.declared.Session.{Session}
 use Rattle.session.specs.Body.{noSession}
 use Rattle.session.specs.Layout.{sessionTests, sessionOf, IsSession}
 use Rattle.walks.specs.Output.{outputTests, OutputWritten}
+use Rattle.demands.specs.Made.{Makes}
 
 -- a call's number by its tests: they stand in the paper's order, and each refusal comes exactly where its case is given and none before it is
 pub record Exactly (tests : List Test) (number : ℕ) : Type 0 where
@@ -159,8 +161,9 @@ pub record Carries (c : Core) (program : List ℕ) (f : Fields) (b after : Buffe
   -- the word is the one that the program has at the position, and the core accepts it
   pub inside : positionOf (b .journal) < wordsOf (length program)
   pub accepted : decodedOn (c .facts) (wordAt program (positionOf (b .journal))) ≡ Word f
-  -- the word is executed, its one destination register, Zd, has its new bytes, and every other byte of both files is as it was
-  pub target : targetOf f ≡ vector (f .d)
+  -- the word is executed, its one destination register has its new bytes, and every other byte of both files is as it was; that register is Pd for the
+  -- words that make a predicate, and else Zd
+  pub target : targetOf f ≡ registerFrom (kindWritten (familyOf (f .row))) (f .d)
   pub files : after .files ≡ executed f (c .k) (b .files)
   pub destination : read (c .k) (targetOf f) (after .files) ≡ destinationAfter f (c .k) (b .files)
   pub others : Kept (c .k) (targetOf f) (heldOf (b .journal)) b after
@@ -171,6 +174,8 @@ pub record Carries (c : Core) (program : List ℕ) (f : Fields) (b after : Buffe
       → let s = b .files in
       ByManual (familyOf (f .row)) (formOf (f .row) .parameters) (widthOf (f .size)) (f .q) (c .k) e (predicateOf (c .k) (f .g) (s .p))
       (vectorOf (c .k) (f .n) (s .z)) (vectorOf (c .k) (f .m) (s .z)) (vectorOf (c .k) (f .d) (s .z)) (integerAfter f (c .k) s e)
+  -- a word that makes a predicate sets of Pd exactly the bits of the lanes that it names, and changes no vector
+  pub makes : (made : MadeFamily) → familyOf (f .row) ≡ Made made → Makes f (c .k) made (b .files) (after .files)
   -- read at its sign it is that sum, where no sum of the form and size goes past the width
   pub exact : isExact (familyOf (f .row)) (formOf (f .row) .parameters) (f .size) ≡ true → (e : ℕ) → e < lanesFor f (c .k)
       → integer (answerSigned (formOf (f .row) .parameters)) (bitsOf (widthFor f)) (lane (widthFor f) e (read (c .k) (targetOf f) (after .files)))

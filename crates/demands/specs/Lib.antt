@@ -1,3 +1,4 @@
+pub mod Made
 pub mod Demands
 pub mod Anywhere
 pub mod Told

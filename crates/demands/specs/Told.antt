@@ -36,7 +36,7 @@ bytesTold row Operand2 size = getD (row .«m_bytes») size 0
 bytesTold row Old size = getD (row .«d_bytes») size 0
 
 abbrev pub namedTold : About → Source → Bool
-namedTold row Operand1 = true
+namedTold row Operand1 = row .«has_n»
 namedTold row Operand2 = row .«has_m»
 namedTold row Old = row .«reads_destination»
 

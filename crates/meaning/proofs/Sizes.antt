@@ -32,6 +32,7 @@ use Rattle.meaning.specs.Meaning.{lowWidth, widthAfter, lowLanes, lanesA
 use Rattle.meaning.specs.Execute.{kindWritten, widthFor, lanesFor, writtenFor, laneCount, lanesMade, destinationFor, destinationAfter}
 use Rattle.made.proofs.Made.{made-length}
 use Rattle.meaning.specs.Needs.{Executable}
+use Rattle.meaning.specs.Theorems.{isGoverned}
 use Rattle.registers.proofs.Padded.{length-padded}
 
 pub false-not-true : false ≡ true → ⊥
@@ -76,6 +77,27 @@ fits : (family : Family) (signed : Bool) (k q size : ℕ) → 1 ≤ k → size <
 fits (Low low) signed k q size l s a = omega (arith, low-fits low signed q size s a)
 fits (Wide wide) signed k q size l s a = omega (arith, whole k size s)
 fits (Made made) signed k q size l s a = omega arith
+
+-- a word that writes a vector leaves there what it writes and zeros above
+pub vector-destination : (f : Fields) (k : ℕ) (s : State) → kindWritten (familyOf (f .row)) ≡ Vector
+    → destinationAfter f k s ≡ padded (vectorBytes k) (writtenFor f k s)
+vector-destination f k s = by (familyOf (f .row))
+  where
+    by : (family : Family) → kindWritten family ≡ Vector → destinationFor family f k s ≡ padded (vectorBytes k) (writtenFor f k s)
+    by (Low low) is = refl
+    by (Wide wide) is = refl
+    by (Made made) is = cc
+
+-- a family that writes lanes, and one that a predicate governs, write vectors
+pub lanes-of-vectors : (family : Family) (w bytes e : ℕ) → e < lanesAfter family w bytes → kindWritten family ≡ Vector
+lanes-of-vectors (Low low) w bytes e h = refl
+lanes-of-vectors (Wide wide) w bytes e h = refl
+lanes-of-vectors (Made made) w bytes e h = absurd (omega arith)
+
+pub governed-vectors : (family : Family) → isGoverned family ≡ true → kindWritten family ≡ Vector
+governed-vectors (Low low) g = refl
+governed-vectors (Wide wide) g = refl
+governed-vectors (Made made) g = absurd (false-not-true g)
 
 module _ (f : Fields) (k : ℕ) (s : State) (x : Executable f k s) where
   pub k-least : 1 ≤ k
@@ -132,15 +154,6 @@ module _ (f : Fields) (k : ℕ) (s : State) (x : Executable f k s) where
       by (Low low) = length-padded (vectorBytes k) (writtenFor f k s) written-fits
       by (Wide wide) = length-padded (vectorBytes k) (writtenFor f k s) written-fits
       by (Made made) = made-length (predicateBytes k) (f .size) (lanesMade made (f .pattern) (laneCount f k))
-
-  -- a word that writes a vector leaves there what it writes and zeros above, one that makes a predicate that predicate
-  pub vector-destination : kindWritten (familyOf (f .row)) ≡ Vector → destinationAfter f k s ≡ padded (vectorBytes k) (writtenFor f k s)
-  vector-destination = by (familyOf (f .row))
-    where
-      by : (family : Family) → kindWritten family ≡ Vector → destinationFor family f k s ≡ padded (vectorBytes k) (writtenFor f k s)
-      by (Low low) is = refl
-      by (Wide wide) is = refl
-      by (Made made) is = cc
 
   -- and a low family's the low sixteen bytes
   pub low-written-fits : (low : LowFamily) → familyOf (f .row) ≡ Low low → length (writtenFor f k s) ≤ segmentBytes

@@ -84,7 +84,7 @@ module _ (k : ℕ) (f : Fields) (b : Buffers) (x : Executable f k (b .files)) (v
   former-files : executed f k (b .files) ≡ formerCarried k f b .files
   former-files =
       executed-of-kind f k (b .files) Vector vectors
-      ∙ ap (λ (bytes : List ℕ). state (withVector k (f .d) bytes (b .files .z)) (b .files .p)) (vector-destination f k (b .files) x vectors)
+      ∙ ap (λ (bytes : List ℕ). state (withVector k (f .d) bytes (b .files .z)) (b .files .p)) (vector-destination f k (b .files) vectors)
 
   former-entry : entryOf k (targetOf f) (b .files) ≡ record { number = f .d; old = vectorOf k (f .d) (b .files .z) }
   former-entry = ap (λ (r : Register). entryOf k r (b .files)) (target-of-kind f Vector vectors) ∙ vector-entry k (f .d) (b .files) (x .lent) (destination-in (x .fields))

@@ -209,7 +209,7 @@ module _ (wide : WideFamily) (f : Fields) (k : ℕ) (s : State) (x : ExecutableA
   after-all : fileAfter f k s (vectorBytes k / w) ≡ executed f k s .z
   after-all =
       let vectors = ap kindWritten (x .is) in
-      rw (executed-vectors f k s vectors, vector-destination f k s (x .word) vectors, x .is)
+      rw (executed-vectors f k s vectors, vector-destination f k s vectors, x .is)
       (ap₂ (λ (n : ℕ) (lanes : List ℕ). withPart (place (f .d)) n lanes (s .z)) filled
       (sym (padded-full (vectorBytes k) _ (length-lanes w 0 (vectorBytes k / w) _ ∙ filled))))
     where

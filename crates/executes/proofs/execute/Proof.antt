@@ -104,7 +104,7 @@ low-vectors c =
     ∙ ap (λ (bytes : List ℕ). withVector (a .k) (a .f .d) bytes (a .z .now))
     (ap (padded (vectorBytes (a .k))) (w .low-bytes .ensures)
     ∙ padded-padded segmentBytes (vectorBytes (a .k)) (writes s) (low-fits w) (omega (arith, k-least _ _ _ (s .pre)))
-    ∙ sym (vector-destination (a .f) (a .k) (lent s) (s .pre) vectors))
+    ∙ sym (vector-destination (a .f) (a .k) (lent s) vectors))
     ∙ sym (executed-vectors (a .f) (a .k) (lent s) vectors)
 
 returns : tie.Need-returns
