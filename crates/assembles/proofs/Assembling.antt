@@ -16,7 +16,7 @@ use Rattle.words.specs.Encode.{encoded, InRange}
 use Rattle.words.specs.declared.Fields.{Fields}
 use Rattle.words.specs.declared.Decoded.the-variants.{Word}
 use Rattle.rows.specs.Table.{familyOf}
-use Rattle.words.proofs.Decoding.{governing-below, second-below, q-below}
+use Rattle.words.proofs.Decoding.{governing-below, second-below, q-below, size-in, source-in, destination-in, pattern-in}
 use Rattle.words.proofs.Encoding.{decoded-in-range, encoded-decoded}
 use Rattle.facts.specs.declared.Facts.{Facts}
 use Rattle.cores.specs.Core.{decodedOn}
@@ -34,12 +34,13 @@ in-place f r =
     let family = familyOf (f .row) in
     λ t. record {
       row = f .row;
-      size = mod-eq-of-lt (r .size) t;
-      n = mod-eq-of-lt (r .n) t;
-      d = mod-eq-of-lt (r .d) t;
+      size = mod-eq-of-lt (size-in r) t;
+      n = mod-eq-of-lt (source-in r) t;
+      d = mod-eq-of-lt (destination-in r) t;
       g = mod-eq-of-lt (governing-below family (r .g)) t;
       m = mod-eq-of-lt (second-below family (r .m)) t;
       q = mod-eq-of-lt (q-below family (r .q)) t;
+      pattern = mod-eq-of-lt (pattern-in r) t;
     }
 
 -- a word that a core accepts decodes to its fields

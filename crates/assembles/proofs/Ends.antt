@@ -1,9 +1,10 @@
--- How a text ends: as the last operand's suffix does, with the letter of a size and, before it, the last digit of a count of lanes.
+-- How a text ends: as the last operand's suffix does, with the letter of a size and, before it, the last digit of a count of lanes; or with what
+-- follows the comma after an operand, three before which the letter stands.
 -- Assumes nothing.
 use mathlib.Core.Path.{_≡_, refl, _∙_, ap}
 use mathlib.Core.Bool.{Bool, true, cond}
 use mathlib.Core.List.{List, [], _∷_, _++_, append-assoc, append-nil}
-use Prim.Native.Nat.{ℕ, zero, suc, _-_, _/_, _%_, _≤_, _<_}
+use Prim.Native.Nat.{ℕ, zero, suc, _+_, _-_, _/_, _%_, _≤_, _<_}
 use native.Mathlib.Omega.{arith}
 use lib.Dec.{eqb}
 use lib.ListN.{length, getD, length-append}
@@ -15,7 +16,7 @@ use Rattle.digits.specs.Digits.{digitOf, digitsIn, decimalWidth, decimal}
 use Rattle.digits.proofs.Decimals.{digits-length, decimal-least}
 use Rattle.operands.specs.declared.Suffix.the-variants.{Lane, Lanes}
 use Rattle.operands.specs.declared.Operand.{Operand}
-use Rattle.operands.specs.Operands.{letters, letterOf, lanesOf, suffixText, operandText}
+use Rattle.operands.specs.Operands.{letters, letterOf, lanesOf, suffixText, operand, operandText}
 use Rattle.names.specs.Text.{listed}
 use Rattle.scans.specs.Scanned.{fromEnd, placeOf, fullDigits}
 
@@ -34,7 +35,7 @@ lastOf o (p ∷ os) = lastOf p os
 
 -- operands end as the last one's suffix does
 pub listed-end : (o : Operand) (os : List Operand) (i : ℕ) → i ≤ length (suffixText (lastOf o os .suffix))
-    → (i ≤ length (listed (o ∷ os))) × (fromEnd (listed (o ∷ os)) i ≡ fromEnd (suffixText (lastOf o os .suffix)) i)
+    → (i ≤ length (listed (o ∷ os) [])) × (fromEnd (listed (o ∷ os) []) i ≡ fromEnd (suffixText (lastOf o os .suffix)) i)
 listed-end o [] i h =
     let whole = length-append (decimal (o .number)) (suffixText (o .suffix)) in (
       omega (arith, length-append (operandText o) []),
@@ -43,10 +44,10 @@ listed-end o [] i h =
     )
 listed-end o (p ∷ os) i h =
     let rest = listed-end p os i h in
-    let whole = length-append (operandText o) (44 ∷ 32 ∷ listed (p ∷ os)) in (
+    let whole = length-append (operandText o) (44 ∷ 32 ∷ listed (p ∷ os) []) in (
       omega arith,
-      end-append (operandText o) (44 ∷ 32 ∷ listed (p ∷ os)) i (omega arith)
-          ∙ end-append (44 ∷ 32 ∷ []) (listed (p ∷ os)) i (rest .0)
+      end-append (operandText o) (44 ∷ 32 ∷ listed (p ∷ os) []) i (omega arith)
+          ∙ end-append (44 ∷ 32 ∷ []) (listed (p ∷ os) []) i (rest .0)
           ∙ rest .1,
     )
 
@@ -58,6 +59,27 @@ lane-end size = refl
 pub lanes-end : (count size : ℕ) → fromEnd (suffixText (Lanes count size)) 1 ≡ letterOf size
 unfolding fromEnd
 lanes-end count size = end-append (46 ∷ decimal count) (letterOf size ∷ []) 1 (omega arith)
+
+-- and where a comma, a space and a rest follow it, it stands three before the rest
+whole-end : (b : ℕ) (l : List ℕ) → fromEnd (b ∷ l) (length (b ∷ l)) ≡ b
+unfolding fromEnd
+whole-end b l =
+    let none : length (b ∷ l) - length (b ∷ l) ≡ 0 = omega arith in
+    rw (le-leb (length (b ∷ l)) (length (b ∷ l)) (omega arith)) (ap (λ (i : ℕ). getD (b ∷ l) i 0) none)
+
+pub lane-before : (front rest : List ℕ) (letter number size : ℕ)
+    → fromEnd (front ++ (operandText (operand letter number (Lane size)) ++ (44 ∷ 32 ∷ rest))) (length rest + 3) ≡ letterOf size
+lane-before front rest letter number size =
+    let end : List ℕ = 44 ∷ 32 ∷ rest in
+    let all : length rest + 3 ≡ length (letterOf size ∷ end) = omega arith in
+    let whole = length-append (operandText (operand letter number (Lane size))) end in
+    let parts = length-append (letter ∷ decimal number) (46 ∷ letterOf size ∷ []) in
+    end-append front (operandText (operand letter number (Lane size)) ++ end) (length rest + 3) (omega arith)
+    ∙ ap (λ (l : List ℕ). fromEnd l (length rest + 3)) (append-assoc (letter ∷ decimal number) (46 ∷ letterOf size ∷ []) end)
+    ∙ end-append (letter ∷ decimal number) (46 ∷ letterOf size ∷ end) (length rest + 3) (omega arith)
+    ∙ end-append (46 ∷ []) (letterOf size ∷ end) (length rest + 3) (omega arith)
+    ∙ ap (fromEnd (letterOf size ∷ end)) all
+    ∙ whole-end (letterOf size) end
 
 -- which tells the size
 letterGood : ℕ → Bool

@@ -16,7 +16,7 @@ use Rattle.operands.specs.declared.Suffix.{Suffix}
 use Rattle.operands.specs.declared.Suffix.the-variants.{Plain, Lane, Lanes, Merging}
 use Rattle.operands.specs.declared.Operand.{Operand}
 use Rattle.operands.specs.Operands.{letterOf, suffixText, operandText}
-use Rattle.names.specs.Text.{keyOf, nameOf, listed}
+use Rattle.names.specs.Text.{keyOf, nameOf}
 use Rattle.scans.specs.Scanned.{pastSpace}
 
 -- bytes with no space among them
@@ -84,13 +84,13 @@ free-suffix Merging = refl
 free-operand : (o : Operand) → eqb (o .letter) 32 ≡ false → free (operandText o) ≡ true
 free-operand o h = rw h (free-append (decimal (o .number)) (suffixText (o .suffix)) (free-decimal (o .number)) (free-suffix (o .suffix)))
 
--- past the first space is the next operand
-pub past-operand : (o p : Operand) (os : List Operand) → eqb (o .letter) 32 ≡ false → pastSpace (listed (o ∷ p ∷ os)) ≡ listed (p ∷ os)
-past-operand o p os h =
-    ap pastSpace (sym (append-snoc (operandText o) 44 (32 ∷ listed (p ∷ os))))
-    ∙ past-free (operandText o ++ (44 ∷ [])) (listed (p ∷ os)) (free-append (operandText o) (44 ∷ []) (free-operand o h) refl)
+-- past the first space is what follows the comma after the operand
+pub past-operand : (o : Operand) (rest : List ℕ) → eqb (o .letter) 32 ≡ false → pastSpace (operandText o ++ (44 ∷ 32 ∷ rest)) ≡ rest
+past-operand o rest h =
+    ap pastSpace (sym (append-snoc (operandText o) 44 (32 ∷ rest)))
+    ∙ past-free (operandText o ++ (44 ∷ [])) rest (free-append (operandText o) (44 ∷ []) (free-operand o h) refl)
 
--- and past the name's, the first
+-- and past the name's, the first operand
 names-free : every rows (λ i. free (nameOf i)) ≡ true
 unfolding nameOf keyOf rowAt
 names-free = refl

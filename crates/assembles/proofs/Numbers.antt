@@ -53,13 +53,14 @@ suffix-tail (Lane size) rest e = refl
 suffix-tail (Lanes count size) rest e = refl
 suffix-tail Merging rest e = refl
 
-following-tail : (os : List Operand) → isDigit (getD (following os) 0 0) ≡ false
-following-tail [] = refl
-following-tail (o ∷ os) = refl
+following-tail : (os : List Operand) (end : List ℕ) → isDigit (getD end 0 0) ≡ false → isDigit (getD (following os end) 0 0) ≡ false
+following-tail [] end e = e
+following-tail (o ∷ os) end e = refl
 
 -- the number of the first of some operands
-pub listed-number : (o : Operand) (os : List Operand) → o .number < 100 → numberIn (listed (o ∷ os)) ≡ o .number
-listed-number o os h =
-    ap (λ (l : List ℕ). numberIn (o .letter ∷ l)) (append-assoc (decimal (o .number)) (suffixText (o .suffix)) (following os))
-    ∙ number-back (o .letter) (o .number) (suffixText (o .suffix) ++ following os) h
-    (suffix-tail (o .suffix) (following os) (following-tail os))
+pub listed-number : (o : Operand) (os : List Operand) (end : List ℕ) → isDigit (getD end 0 0) ≡ false → o .number < 100
+    → numberIn (listed (o ∷ os) end) ≡ o .number
+listed-number o os end e h =
+    ap (λ (l : List ℕ). numberIn (o .letter ∷ l)) (append-assoc (decimal (o .number)) (suffixText (o .suffix)) (following os end))
+    ∙ number-back (o .letter) (o .number) (suffixText (o .suffix) ++ following os end) h
+    (suffix-tail (o .suffix) (following os end) (following-tail os end e))

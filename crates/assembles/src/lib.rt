@@ -6,18 +6,22 @@ use rows::Family;
 use rows::LowFamily;
 use rows::WideFamily;
 use words::Fields;
+use words::NAMING_DIGITS;
 use words::PREDICATE_DIGITS;
 use words::REGISTER_DIGITS;
 use words::SIZE_DIGITS;
 use words::place;
 ghost use mathlib.Core.Path.{_≡_};
-ghost use Prim.Native.Nat.{_*_, _%_, _≤_, _^_};
+ghost use Prim.Native.Nat.{_+_, _*_, _-_, _%_, _≤_, _^_};
+ghost use lib.ListN.{length, drop};
 ghost use Rattle.machine.specs.Size.{sizes};
 ghost use Rattle.words.specs.Field.{registerDigits, qPlace};
-ghost use Rattle.assembles.specs.Reading.{fields, byFamily, fieldsFrom, wordOf};
+ghost use Rattle.patterns.specs.Text.{patternNamed};
+ghost use Rattle.scans.specs.Scanned.{sizeIn};
+ghost use Rattle.assembles.specs.Reading.{fields, byFamily, withPattern, fieldsFrom, wordOf};
 ghost use Rattle.assembles.specs.Assembled.{Assembled};
 
-// Fields in the order of the operands.
+// Fields in the order of the operands, of a word without a pattern.
 fn fields(row: usize, size: usize, d: usize, g: usize, n: usize, m: usize, q: usize) -> Fields
     ensures { λ r. ⌜ r ≡ fields row size d g n m q ⌝ }
 {
@@ -29,6 +33,7 @@ fn fields(row: usize, size: usize, d: usize, g: usize, n: usize, m: usize, q: us
         g,
         m,
         q,
+        pattern: 0,
     }
 }
 
@@ -55,6 +60,29 @@ fn by_family(
             WideFamily::Pairwise => fields(row, size + 1, a, b, c, 0, 0),
             WideFamily::Widening => fields(row, size + 1, a, 0, b, c, 0),
         },
+        Family::Made(_) => fields(row, 0, a, 0, 0, 0, 0),
+    }
+}
+
+// The fields with the pattern that stands at a place in the text and the size of the letter before its comma, where the pattern has digits.
+fn with_pattern(f: Fields, digits: u32, text: &[u8], at: usize) -> Fields
+    requires { ⌜ at ≤ length (now text) ⌝ }
+    ensures { λ r. ⌜ r ≡ withPattern f digits (sizeIn (now (text .entry)) (length (now (text .entry)) - at + 3)) (patternNamed (drop at (now (text .entry)))) ⌝ }
+{
+    if digits == 0 {
+        return f;
+    }
+    let size = scans::size_in(text, text.len() - at + 3);
+    let pattern = patterns::pattern_named(&text[at..]);
+    Fields {
+        row: f.row,
+        size,
+        n: f.n,
+        d: f.d,
+        g: f.g,
+        m: f.m,
+        q: f.q,
+        pattern,
     }
 }
 
@@ -63,22 +91,17 @@ fn read_fields(text: &[u8]) -> Fields
     ensures { λ r. ⌜ r ≡ fieldsFrom (now (text .entry)) ⌝ }
 {
     let row = names::row_named(text);
+    let family = rows::family_of(row);
     let first = scans::past_space(text, 0);
     let second = scans::past_space(text, first);
     let third = scans::past_space(text, second);
     let a = scans::number_at(text, first);
     let b = scans::number_at(text, second);
     let c = scans::number_at(text, third);
-    let size = scans::size_in(text);
-    by_family(
-        row,
-        rows::family_of(row),
-        size,
-        a,
-        b,
-        c,
-        scans::q_in(size, text),
-    )
+    let size = scans::size_in(text, 1);
+    let q = scans::q_in(size, text);
+    let f = by_family(row, family, size, a, b, c, q);
+    with_pattern(f, words::pattern_digits(family), text, second)
 }
 
 // A number's last digits at their place in a word.
@@ -101,7 +124,8 @@ fn encode(f: Fields) -> u32
     let g = placed(f.g, PREDICATE_DIGITS, place::GOVERNING);
     let q = placed(f.q, 1, place::Q);
     let d = placed(f.d, REGISTER_DIGITS, place::DESTINATION);
-    let sum = value + n + m + size + g + q + d;
+    let pattern = placed(f.pattern, NAMING_DIGITS, place::PATTERN);
+    let sum = value + n + m + size + g + q + d + pattern;
     (sum % 0x100000000) as u32
 }
 

@@ -6,12 +6,15 @@ use machine::refusal;
 use programs::Next;
 use registers::Kind;
 use words::Decoded;
+use words::Fields;
 ghost use mathlib.Core.Path.{_≡_};
 ghost use mathlib.Core.List.{[], _∷_, _++_};
 ghost use Prim.Native.Nat.{_+_, _≤_};
 ghost use lib.ListN.{length};
 ghost use Rattle.machine.specs.Refusal.{DONE};
-ghost use Rattle.registers.specs.State.{state};
+ghost use Rattle.registers.specs.State.{state, read};
+ghost use Rattle.meaning.specs.Execute.{targetOf};
+ghost use Rattle.meaning.specs.Needs.{Executable};
 ghost use Rattle.digits.specs.Digits.{digitsIn, decimal};
 ghost use Rattle.digits.specs.Put.{Put};
 ghost use Rattle.names.specs.Named.{leastOut, textOfWord};
@@ -94,6 +97,17 @@ fn put_word(out: &mut [u8], at: usize, word: u32) -> usize
     digits::put(out, end, b'\n')
 }
 
+// The register that a word writes, lent on from the file of its kind.
+fn register_written<'a>(k: usize, z: &'a [u8], p: &'a [u8], f: Fields) -> &'a [u8]
+    requires { ⌜ Executable f k (state (now z) (now p)) ⌝ }
+    ensures { λ r. ⌜ now r ≡ read k (targetOf f) (state (now (z .entry)) (now (p .entry))) ⌝ }
+{
+    match executes::kind_written(f.row) {
+        Kind::Vector => registers::register(k, Kind::Vector, z, f.d),
+        Kind::Predicate => registers::register(k, Kind::Predicate, p, f.d),
+    }
+}
+
 // Writes the line of an accepted step: the word's text, and the register.
 fn put_accepted(out: &mut [u8], position: usize, word: u32, register: &[u8]) -> usize
     requires { ⌜ (length (lead position DONE) + leastOut ≤ length (now out)) × (length (acceptedLine position word (now register)) ≤ length (now out)) ⌝ }
@@ -158,12 +172,12 @@ fn done(length: usize) -> Answer
 
 // Writes the line of the step at a position, which answered this number and left these files, at the front of the output, and
 // answers its length; bytes past it stay. Refused: LENGTH, FILE, PROGRAM, END, OUT, and UNKNOWN and UNDEFINED for a step told done whose word the core does not accept.
-pub fn write_line(
+pub fn write_line<'a>(
     out: &mut [u8],
     k: usize,
     facts: Facts,
-    z: &[u8],
-    p: &[u8],
+    z: &'a [u8],
+    p: &'a [u8],
     program: &[u8],
     position: usize,
     number: u64,
@@ -181,7 +195,7 @@ pub fn write_line(
         Decoded::Unknown => refuse(refusal::UNKNOWN),
         Decoded::Undefined => refuse(refusal::UNDEFINED),
         Decoded::Word(fields) => {
-            let register = registers::register(k, Kind::Vector, z, fields.d);
+            let register = register_written(k, z, p, fields);
             done(put_accepted(out, position, found.word, register))
         },
     }

@@ -7,6 +7,8 @@ use Rattle.rows.specs.Digits.{digitsAnd}
 use Rattle.rows.specs.Table.{rowAt, rowOf, matches, placeFrom}
 use Rattle.words.specs.Decode.{decoded}
 use Rattle.digits.specs.Digits.{digitOf, digitsIn, widthWithin, decimalWidth}
+use Rattle.patterns.specs.Lanes.{kindOf}
+use Rattle.patterns.specs.Text.{patternText}
 use Rattle.operands.specs.Operands.{letterOf}
 use Rattle.names.specs.Text.{keyOf, nameOf, textOf}
 use Rattle.names.specs.Named.{textOfWord}
@@ -24,6 +26,13 @@ pub example-texts : map textOfWord
     ∷ 0x45421020
     ∷ 0x45424020
     ∷ 0x45DF5FFF
+    ∷ 0x2558E123
+    ∷ 0x2518E3E0
+    ∷ 0x25D8E1CF
+    ∷ 0x2598E3A7
+    ∷ 0x2518E403
+    ∷ 0x2518E133
+    ∷ 0x2558E403
     ∷ [])
     ≡ bytes "saddv d0, p0, z1.b"
     ∷ bytes "uaddlv h2, v1.8b"
@@ -37,6 +46,13 @@ pub example-texts : map textOfWord
     ∷ bytes "ssublb z0.h, z1.b, z2.b"
     ∷ bytes "saddwb z0.h, z1.h, z2.b"
     ∷ bytes "usubwt z31.d, z31.d, z31.s"
+    ∷ bytes "ptrue p3.h, vl16"
+    ∷ bytes "ptrue p0.b, all"
+    ∷ bytes "ptrue p15.d, #14"
+    ∷ bytes "ptrue p7.s, mul4"
+    ∷ bytes "pfalse p3.b"
     ∷ []
-unfolding decoded rowAt rowOf placeFrom matches digitsAnd textOf keyOf nameOf digitOf digitsIn widthWithin decimalWidth letterOf
+    ∷ []
+    ∷ []
+unfolding decoded rowAt rowOf placeFrom matches digitsAnd textOf keyOf nameOf digitOf digitsIn widthWithin decimalWidth letterOf patternText kindOf
 example-texts = refl

@@ -1,5 +1,5 @@
--- Naming by the paper's numbers: a text needs an output of 32 bytes, which is tested before the word; the text of 04002020 byte by byte in ASCII; and a text
--- of 26 bytes, which is the longest (`word-length`).
+-- Naming by the paper's numbers: a text needs an output of 32 bytes, which is tested before the word; the texts of 04002020 and of 2558E123 byte by
+-- byte in ASCII; and a text of 26 bytes, which is the longest (`word-length`).
 -- Assumes nothing.
 use Prim.Native.Nat.{ℕ}
 use mathlib.Core.Path.{_≡_, refl}
@@ -12,6 +12,8 @@ use Rattle.words.specs.Decode.{decoded}
 use Rattle.cores.specs.Need.{needOf}
 use Rattle.cores.specs.Core.{decodedOn}
 use Rattle.digits.specs.Digits.{digitOf, digitsIn, widthWithin, decimalWidth}
+use Rattle.patterns.specs.Lanes.{kindOf}
+use Rattle.patterns.specs.Text.{patternText}
 use Rattle.operands.specs.Operands.{letterOf}
 use Rattle.names.specs.Text.{keyOf, nameOf, textOf}
 use Rattle.names.specs.Named.{mostText, textOfWord, nameRefused}
@@ -30,6 +32,12 @@ pub text-literal : textOfWord 0x04002020
     ≡ 0x73 ∷ 0x61 ∷ 0x64 ∷ 0x64 ∷ 0x76 ∷ 0x20 ∷ 0x64 ∷ 0x30 ∷ 0x2C ∷ 0x20 ∷ 0x70 ∷ 0x30 ∷ 0x2C ∷ 0x20 ∷ 0x7A ∷ 0x31 ∷ 0x2E ∷ 0x62 ∷ []
 unfolding decoded rowAt rowOf placeFrom matches digitsAnd textOf keyOf nameOf digitOf digitsIn widthWithin decimalWidth letterOf
 text-literal = refl
+
+-- ptrue p3.h, vl16
+pub pattern-literal : textOfWord 0x2558E123
+    ≡ 0x70 ∷ 0x74 ∷ 0x72 ∷ 0x75 ∷ 0x65 ∷ 0x20 ∷ 0x70 ∷ 0x33 ∷ 0x2E ∷ 0x68 ∷ 0x2C ∷ 0x20 ∷ 0x76 ∷ 0x6C ∷ 0x31 ∷ 0x36 ∷ []
+unfolding decoded rowAt rowOf placeFrom matches digitsAnd textOf keyOf nameOf digitOf digitsIn widthWithin decimalWidth letterOf patternText kindOf
+pattern-literal = refl
 
 -- usubwt z31.d, z31.d, z31.s
 pub longest-literal : length (textOfWord 0x45DF5FFF) ≡ 26

@@ -1,4 +1,4 @@
--- How a word reads: the name, one space, and the operands, comma and space between them.
+-- How a word reads: the name, one space, and the operands, comma and space between them, a pattern last.
 use mathlib.Core.Path.{_≡_}
 use Prim.Native.Nat.{ℕ, zero, suc}
 use Prim.Native.Char.{code}
@@ -9,11 +9,11 @@ use lib.ListN.{take, length}
 use Rattle.parts.specs.Part.{sameBytes}
 use Rattle.parts.specs.Text.{bytes}
 use Rattle.rows.specs.Table.{nameBytes, lineName, table, rowAt, familyOf, formOf}
-use Rattle.words.specs.Field.{governingDigits, secondDigits}
+use Rattle.words.specs.Field.{sourceDigits, governingDigits, secondDigits, patternDigits}
 use Rattle.rows.specs.declared.Family.{Family}
 use Rattle.words.specs.declared.Fields.{Fields}
 use Rattle.operands.specs.declared.Operand.{Operand}
-use Rattle.operands.specs.Operands.{operandText, destinationOperand, governingOperand, sourceOperand}
+use Rattle.operands.specs.Operands.{operandText, destinationOperand, governingOperand, sourceOperand, furtherPattern}
 
 -- the first six bytes of a text of a row: a name of five letters has its space among them
 unfoldable pub keyOf : ℕ → List ℕ
@@ -56,18 +56,23 @@ abbrev pub operandsNamed : Family → Bool → Fields → List Operand
 operandsNamed family wide f =
     destinationOperand family f
     ∷ whereIn (governingDigits family) (governingOperand family f)
-    (sourceOperand family wide (f .n) f ∷ whereIn (secondDigits family) (sourceOperand family false (f .m) f) [])
+    (whereIn (sourceDigits family) (sourceOperand family wide (f .n) f)
+    (whereIn (secondDigits family) (sourceOperand family false (f .m) f) []))
 
--- the operands that follow the first, each with a comma and a space before it
-abbrev pub following : List Operand → List ℕ
-following [] = []
-following (o ∷ os) = bytes ", " ++ operandText o ++ following os
+-- the operands that follow the first, each with a comma and a space before it, and what stands after the last
+abbrev pub following : List Operand → List ℕ → List ℕ
+following [] end = end
+following (o ∷ os) end = bytes ", " ++ operandText o ++ following os end
 
--- operands, comma and space between them
-abbrev pub listed : List Operand → List ℕ
-listed [] = []
-listed (o ∷ os) = operandText o ++ following os
+-- operands, comma and space between them, and what stands after the last
+abbrev pub listed : List Operand → List ℕ → List ℕ
+listed [] end = end
+listed (o ∷ os) end = operandText o ++ following os end
+
+-- the operands of a family, and its pattern after them where it has a field for one
+abbrev pub operandsText : Family → Bool → Fields → List ℕ
+operandsText family wide f = listed (operandsNamed family wide f) (furtherPattern (patternDigits family) (f .pattern))
 
 -- the text of a word with these fields
 unfoldable pub textOf : Fields → List ℕ
-textOf f = nameOf (f .row) ++ bytes " " ++ listed (operandsNamed (familyOf (f .row)) (formOf (f .row) .parameters .wide) f)
+textOf f = nameOf (f .row) ++ bytes " " ++ operandsText (familyOf (f .row)) (formOf (f .row) .parameters .wide) f

@@ -1,4 +1,4 @@
-// A word's text: its name and its operands, written into what the caller lends.
+// A word's text: its name, its operands and its pattern, written into what the caller lends.
 mod row;
 
 use digits::put;
@@ -59,15 +59,16 @@ fn put_text(out: &mut [u8], f: Fields) -> usize
     let fourth = operands::put_further(
         out,
         third,
-        words::REGISTER_DIGITS,
+        words::source_digits(family),
         operands::source(family, form.parameters.wide, f.n, f),
     );
-    operands::put_further(
+    let last = operands::put_further(
         out,
         fourth,
         words::second_digits(family),
         operands::source(family, false, f.m, f),
-    )
+    );
+    operands::put_further_pattern(out, last, words::pattern_digits(family), f.pattern)
 }
 
 // A word's text at the front of the output, and its length; bytes past it stay. Refused: OUT, UNKNOWN, UNDEFINED.

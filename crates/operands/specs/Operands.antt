@@ -6,11 +6,12 @@ use mathlib.Core.List.{List, [], _∷_, _++_}
 use lib.ListN.{getD}
 use Rattle.parts.specs.Text.{bytes}
 use Rattle.rows.specs.declared.Family.{Family}
-use Rattle.rows.specs.declared.Family.the-variants.{Low, Wide}
+use Rattle.rows.specs.declared.Family.the-variants.{Low, Wide, Made}
 use Rattle.rows.specs.declared.LowFamily.the-variants.{Reduction, Segment, Long}
 use Rattle.rows.specs.declared.WideFamily.the-variants.{Pairwise, Widening}
 use Rattle.words.specs.declared.Fields.{Fields}
 use Rattle.digits.specs.Digits.{decimal}
+use Rattle.patterns.specs.Text.{patternText}
 use Rattle.operands.specs.declared.Suffix.{Suffix}
 use Rattle.operands.specs.declared.Suffix.the-variants.{Plain, Lane, Lanes, Merging}
 use Rattle.operands.specs.declared.Operand.{Operand}
@@ -46,21 +47,30 @@ destinationOperand (Low Reduction) f = operand (code "d") (f .d) Plain
 destinationOperand (Low Segment) f = operand (code "v") (f .d) (Lanes (lanesOf 1 (f .size)) (f .size))
 destinationOperand (Low Long) f = operand (letterOf (f .size + 1)) (f .d) Plain
 destinationOperand (Wide wide) f = operand (code "z") (f .d) (Lane (f .size))
+destinationOperand (Made made) f = operand (code "p") (f .d) (Lane (f .size))
 
--- the governing predicate of a word of a family
+-- the governing predicate of a word of a family; one that makes a predicate has no field for it
 abbrev pub governingOperand : Family → Fields → Operand
 governingOperand (Low low) f = operand (code "p") (f .g) Plain
 governingOperand (Wide wide) f = operand (code "p") (f .g) Merging
+governingOperand (Made made) f = operand (code "p") (f .g) Plain
 
--- the source of this number of a word of a family: in one that writes every lane it has half the width, or the full one where a widening word says so
+-- the source of this number of a word of a family: in one that writes every lane it has half the width, or the full one where a widening word says so;
+-- one that makes a predicate has no field for it
 abbrev pub sourceOperand : Family → Bool → ℕ → Fields → Operand
 sourceOperand (Low Reduction) full number f = operand (code "z") number (Lane (f .size))
 sourceOperand (Low Segment) full number f = operand (code "z") number (Lane (f .size))
 sourceOperand (Low Long) full number f = operand (code "v") number (Lanes (lanesOf (f .q) (f .size)) (f .size))
 sourceOperand (Wide Pairwise) full number f = operand (code "z") number (Lane (f .size - 1))
 sourceOperand (Wide Widening) full number f = operand (code "z") number (Lane (cond full (f .size) (f .size - 1)))
+sourceOperand (Made made) full number f = operand (code "z") number (Lane (f .size))
 
 -- an operand after others, with a comma and a space before it, where its field has digits
 abbrev pub further : ℕ → Operand → List ℕ
 further zero o = []
 further (suc digits) o = bytes ", " ++ operandText o
+
+-- a pattern after the operands, with a comma and a space before it, where its field has digits
+abbrev pub furtherPattern : ℕ → ℕ → List ℕ
+furtherPattern zero pattern = []
+furtherPattern (suc digits) pattern = bytes ", " ++ patternText pattern

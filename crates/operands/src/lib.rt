@@ -13,7 +13,7 @@ ghost use Prim.Native.Nat.{_+_, _-_, _≤_, _<_};
 ghost use lib.ListN.{length};
 ghost use Rattle.machine.specs.Size.{sizes};
 ghost use Rattle.digits.specs.Put.{Put};
-ghost use Rattle.operands.specs.Operands.{letterOf, lanesOf, suffixText, operand, operandText, further, destinationOperand, governingOperand, sourceOperand};
+ghost use Rattle.operands.specs.Operands.{letterOf, lanesOf, suffixText, operand, operandText, further, furtherPattern, destinationOperand, governingOperand, sourceOperand};
 
 // What follows a register's number: nothing, the lanes' size, their count and size, or that inactive lanes merge.
 pub enum Suffix {
@@ -98,6 +98,18 @@ pub fn put_further(out: &mut [u8], at: usize, digits: u32, operand: Operand) -> 
     put_operand(out, next, operand)
 }
 
+// Writes a pattern, with the comma and the space before it, where its field has digits.
+pub fn put_further_pattern(out: &mut [u8], at: usize, digits: u32, pattern: usize) -> usize
+    requires { ⌜ at + length (furtherPattern digits pattern) ≤ length (now out) ⌝ }
+    ensures { λ r. ⌜ Put (now (out .entry)) at (furtherPattern digits pattern) (now (out .exit)) r ⌝ }
+{
+    if digits == 0 {
+        return at;
+    }
+    let next = put_bytes(out, at, b", ");
+    patterns::put_pattern(out, next, pattern)
+}
+
 // An operand: a register's letter, its number and what follows.
 fn register(letter: u8, number: usize, suffix: Suffix) -> Operand
     ensures { λ r. ⌜ r ≡ operand letter number suffix ⌝ }
@@ -136,20 +148,22 @@ pub fn destination(family: Family, f: Fields) -> Operand
             LowFamily::Long => register(letter_of(size + 1), f.d, Suffix::Plain),
         },
         Family::Wide(_) => register(b'z', f.d, Suffix::Lane(size)),
+        Family::Made(_) => register(b'p', f.d, Suffix::Lane(size)),
     }
 }
 
-// The governing predicate of a word of a family.
+// The governing predicate of a word of a family; one that makes a predicate has no field for it.
 pub fn governing(family: Family, f: Fields) -> Operand
     ensures { λ r. ⌜ r ≡ governingOperand family f ⌝ }
 {
     match family {
         Family::Low(_) => register(b'p', f.g, Suffix::Plain),
         Family::Wide(_) => register(b'p', f.g, Suffix::Merging),
+        Family::Made(_) => register(b'p', f.g, Suffix::Plain),
     }
 }
 
-// The source of this number of a word of a family.
+// The source of this number of a word of a family; one that makes a predicate has no field for it.
 pub fn source(family: Family, full: bool, number: usize, f: Fields) -> Operand
     requires { ⌜ (f .size < sizes) × (f .q < 2) ⌝ }
     ensures { λ r. ⌜ r ≡ sourceOperand family full number f ⌝ }
@@ -165,5 +179,6 @@ pub fn source(family: Family, full: bool, number: usize, f: Fields) -> Operand
             WideFamily::Pairwise => register(b'z', number, Suffix::Lane(half(size))),
             WideFamily::Widening => register(b'z', number, Suffix::Lane(widening_size(full, size))),
         },
+        Family::Made(_) => register(b'z', number, Suffix::Lane(size)),
     }
 }

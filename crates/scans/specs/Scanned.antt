@@ -1,4 +1,4 @@
--- What a text's bytes say at a place: what follows a space, the number after a letter, and by the last bytes the size and Q.
+-- What a text's bytes say at a place: what follows a space, the number after a letter, and by the bytes before the end the size and Q.
 use mathlib.Core.Path.{_≡_}
 use Prim.Native.Nat.{ℕ, suc, _+_, _*_, _-_, _≤_}
 use Prim.Native.Char.{code}
@@ -40,9 +40,9 @@ abbrev pub placeOf : ℕ → List ℕ → ℕ
 placeOf b [] = 0
 placeOf b (l ∷ ls) = cond (eqb b l) 0 (suc (placeOf b ls))
 
--- the size that a text's last letter tells
-abbrev pub sizeIn : List ℕ → ℕ
-sizeIn text = placeOf (fromEnd text 1) letters
+-- the size that the letter k places before a text's end tells
+abbrev pub sizeIn : List ℕ → ℕ → ℕ
+sizeIn text k = placeOf (fromEnd text k) letters
 
 -- Q: whether the count of lanes ends as that of 16 bytes does: 16, 8, 4, 2
 abbrev pub fullDigits : List ℕ

@@ -1,4 +1,4 @@
-// What a text's bytes say at a place: the byte, what follows a space, a number, and by the last bytes the size and Q.
+// What a text's bytes say at a place: the byte, what follows a space, a number, and by the bytes before the end the size and Q.
 use machine::Length;
 ghost use mathlib.Core.Path.{_≡_};
 ghost use Prim.Native.Nat.{_≤_};
@@ -85,11 +85,11 @@ fn size_of(letter: u8) -> usize
     }
 }
 
-// The size that a text's last letter tells.
-pub fn size_in(text: &[u8]) -> usize
-    ensures { λ r. ⌜ r ≡ sizeIn (now (text .entry)) ⌝ }
+// The size that the letter k places before a text's end tells.
+pub fn size_in(text: &[u8], k: usize) -> usize
+    ensures { λ r. ⌜ r ≡ sizeIn (now (text .entry)) k ⌝ }
 {
-    size_of(byte_from_end(text, 1))
+    size_of(byte_from_end(text, k))
 }
 
 // Q: whether the count of lanes in a text ends as that of 16 bytes does.

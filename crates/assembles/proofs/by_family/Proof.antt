@@ -26,6 +26,9 @@ returns-4 c = rw (wide (c .before .before .before) .family2 .given .1, c .before
 returns-5 : tie.Need-returns-5
 returns-5 c = rw (wide (c .before .before .before) .family2 .given .1, c .before .enum-told5 .given .1) (c .fields5 .ensures)
 
+returns-6 : tie.Need-returns-6
+returns-6 c = rw (c .before .enum-told6 .given .1) (c .fields6 .ensures)
+
 pub by-family-spec : {M : Type 1} → statement M
 by-family-spec =
     tie.close
@@ -44,8 +47,11 @@ by-family-spec =
     (λ c. search needs)  -- enum-told-5
     (λ c. search needs)  -- add-fields-2
     (λ c κs. search needs)  -- fields-requires-5
+    (λ c. search needs)  -- enum-told-6
+    (λ c κs. search needs)  -- fields-requires-6
     returns
     returns-2
     returns-3
     returns-4
-    returns-5)
+    returns-5
+    returns-6)

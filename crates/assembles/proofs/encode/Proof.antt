@@ -13,28 +13,29 @@ use Rattle.assembles.proofs.encode.Statement.{statement}
 use Rattle.assembles.proofs.encode.Tie as tie
 
 -- the sum of the parts, as they are added up here
-encode-sum : (f : Fields) (v n m size g q d : ℕ) → v ≡ rowValue (f .row)
+encode-sum : (f : Fields) (v n m size g q d pattern : ℕ) → v ≡ rowValue (f .row)
     → n ≡ f .n % 32 * 2 ^ 5 → m ≡ f .m % 32 * 2 ^ 16 → size ≡ f .size % 4 * 2 ^ 22
     → g ≡ f .g % 8 * 2 ^ 10 → q ≡ f .q % 2 * 2 ^ 30 → d ≡ f .d % 32 * 2 ^ 0
-    → v + n + m + size + g + q + d ≡ encoded (limited f)
+    → pattern ≡ f .pattern % 32 * 2 ^ 5 → v + n + m + size + g + q + d + pattern ≡ encoded (limited f)
 unfolding encoded
-encode-sum f v n m size g q d hv hn hm hs hg hq hd = omega arith
+encode-sum f v n m size g q d pattern hv hn hm hs hg hq hd hp = omega arith
 
 returns : tie.Need-returns
 returns c =
-    let five = c .before in
+    let five = c .before .before in
     let three = five .before .before in
     let one = three .before .before in
     let row = one .before .before in
     ap (λ (w : ℕ). w % 2 ^ wordDigits)
-    (encode-sum (row .before .args .f) _ _ _ _ _ _ _
+    (encode-sum (row .before .args .f) _ _ _ _ _ _ _ _
     (ap lineValue (row .row-at .ensures))
     (one .placed .ensures)
     (three .before .placed2 .ensures)
     (three .placed3 .ensures)
     (five .before .placed4 .ensures)
     (five .placed5 .ensures)
-    (c .placed6 .ensures))
+    (c .before .placed6 .ensures)
+    (c .placed7 .ensures))
 
 pub encode-spec : {M : Type 1} → statement M
 encode-spec =
@@ -48,11 +49,13 @@ encode-spec =
     (λ c κs. search needs)  -- placed-requires-4
     (λ c κs. search needs)  -- placed-requires-5
     (λ c κs. search needs)  -- placed-requires-6
+    (λ c κs. search needs)  -- placed-requires-7
     (λ c. search needs)  -- add-sum
     (λ c. search needs)  -- add-sum-2
     (λ c. search needs)  -- add-sum-3
     (λ c. search needs)  -- add-sum-4
     (λ c. search needs)  -- add-sum-5
     (λ c. search needs)  -- add-sum-6
+    (λ c. search needs)  -- add-sum-7
     (λ c. search needs)  -- cast-result
     returns)

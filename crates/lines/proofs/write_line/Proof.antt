@@ -10,15 +10,15 @@ use borrow.Author.Needs.{needs}
 use Rattle.machine.specs.Size.{mostLength, mostWords, vectorBytes}
 use Rattle.machine.specs.Refusal.{UNKNOWN, UNDEFINED, refused}
 use Rattle.machine.proofs.Checks.{legal-most}
-use Rattle.registers.specs.declared.Kind.the-variants.{Vector}
-use Rattle.registers.specs.Register.{InFile}
-use Rattle.registers.proofs.Places.{length-register}
 use Rattle.registers.specs.State.{State, state}
+use Rattle.registers.proofs.Places.{bytes-few}
+use Rattle.registers.proofs.States.{read-most}
 use Rattle.words.specs.Decode.{decoded, numberOf}
 use Rattle.words.specs.declared.Decoded.the-variants.{Word}
 use Rattle.words.proofs.Encoding.{decoded-in-range}
 use Rattle.cores.proofs.Answers.{core-decodes}
-use Rattle.meaning.proofs.Effects.{target-bytes}
+use Rattle.meaning.specs.Execute.{targetOf}
+use Rattle.meaning.specs.Needs.{Executable}
 use Rattle.programs.specs.declared.Next.{Next}
 use Rattle.programs.specs.Word.{wordAt}
 use Rattle.lines.specs.Line.{placedTests, lineRefused, refusedLine, acceptedLine}
@@ -109,21 +109,17 @@ returns-2 c =
     (le-trans (refused-most (s .args .position) (s .args .number) word) (known e .room))
     (shown .put-refused .ensures)
 
--- the destination register lies in the vector file, and is not longer than the longest
-destination : (c : tie.After-known-told) → let s = begin (passed (fielded (c .before))) in
-    InFile (s .args .k) Vector (c .before .fields .given .0 .0 .d) (now (s .args .z))
-destination c =
-    let r = known (passed (fielded (c .before))) .files in
-    record {
-      legal = legal-most _ (r .legal);
-      register = decoded-in-range _ _ (accepted (c .before)) .d;
-      sized = r .vectorSize;
-    }
+-- the word executes on the files, and its register is not longer than the longest
+executes : (c : tie.After-known-told) → let s = begin (passed (fielded (c .before))) in
+    Executable (c .before .fields .given .0 .0) (s .args .k) (files s)
+executes c = record { lent = known (passed (fielded (c .before))) .files; fields = decoded-in-range _ _ (accepted (c .before)) }
 
-few : (c : tie.After-register) → length (now (c .register .result)) ≤ vectorBytes mostLength
+few : (c : tie.After-register-written) → length (now (c .register-written .result)) ≤ vectorBytes mostLength
 few c =
-    let at = destination (c .before) in
-    omega (arith, ap length (c .register .ensures), length-register _ Vector _ _ at, at .legal)
+    let s = begin (passed (fielded (c .before .before))) in
+    let k = s .args .k in
+    let r = targetOf (c .before .before .fields .given .0 .0) in
+    omega (arith, ap length (c .register-written .ensures), read-most k r (files s), bytes-few k (r .kind) (legal-most k (executes (c .before) .lent .legal)))
 
 put-accepted-requires : tie.Need-put-accepted-requires
 put-accepted-requires c κs =
@@ -133,7 +129,7 @@ put-accepted-requires c κs =
     let position : s .args .position ≤ mostWords = omega (arith, r .inside) in
     let word = found e .placed-word .result .word in (
       omega (arith, r .room, accepted-room (s .args .position) position),
-      omega (arith, r .room, few (c .before), accepted-most (s .args .position) position word (now (c .before .register .result))),
+      omega (arith, r .room, few (c .before), accepted-most (s .args .position) position word (now (c .before .register-written .result))),
     )
 
 returns-3 : tie.Need-returns-3
@@ -155,11 +151,11 @@ returns-5 c =
     let s = begin e in
     let r = known e in
     let word = found e .placed-word .result .word in
-    written-done _ _ _ (c .done2 .result) _ (acceptedLine (s .args .position) word (now (shown .register .result))) _ (c .done2 .ensures)
+    written-done _ _ _ (c .done2 .result) _ (acceptedLine (s .args .position) word (now (shown .register-written .result))) _ (c .done2 .ensures)
     (decides d ∙ ap numberOf (shown .before .before .fields .given .1))
     (accepted-line (s .args .k) (files s) (now (s .args .program)) (s .args .position) (s .args .number) word (is-word e) (d .before .if2 .left) _
-    (accepted (shown .before .before)) _ (shown .register .ensures ∙ sym (target-bytes (shown .before .before .fields .given .0 .0) (s .args .k) (files s))))
-    (omega (arith, r .room, few shown, accepted-most (s .args .position) (omega (arith, r .inside)) word (now (shown .register .result))))
+    (accepted (shown .before .before)) _ (shown .register-written .ensures))
+    (omega (arith, r .room, few shown, accepted-most (s .args .position) (omega (arith, r .inside)) word (now (shown .register-written .result))))
     (put .put-accepted .ensures)
 
 pub write-line-spec : {M : Type 1} → statement M
@@ -180,7 +176,7 @@ write-line-spec =
     (λ c. search needs)  -- enum-told-2
     (λ c κs. search needs)  -- refuse-requires-3
     (λ c. search needs)  -- enum-known-fields
-    (λ c κs. destination c)  -- register-requires
+    (λ c κs. executes c)  -- register-written-requires
     put-accepted-requires
     (λ c κs. search needs)  -- done-requires-2
     returns-3

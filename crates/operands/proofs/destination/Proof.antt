@@ -20,6 +20,9 @@ returns-3 c = let l = c .before in rw (low (l .before .before .before) .family .
 returns-4 : tie.Need-returns-4
 returns-4 c = rw (c .before .enum-told4 .given .1) (c .register4 .ensures)
 
+returns-5 : tie.Need-returns-5
+returns-5 c = rw (c .before .enum-told5 .given .1) (c .register5 .ensures)
+
 -- what each arm is told and asks of its calls, then what it returns
 pub destination-spec : {M : Type 1} → statement M
 destination-spec =
@@ -27,4 +30,5 @@ destination-spec =
     let segment = reduction (λ c. search needs) (λ c κs. search needs) (λ c κs. search needs) in
     let long = segment (λ c. search needs) (λ c. search needs) (λ c κs. search needs) (λ c κs. search needs) in
     let wide = long (λ c. search needs) (λ c κs. search needs) in
-    tie.close (wide returns returns-2 returns-3 returns-4)
+    let made = wide (λ c. search needs) (λ c κs. search needs) in
+    tie.close (made returns returns-2 returns-3 returns-4 returns-5)

@@ -28,6 +28,9 @@ returns-5 c =
     let l = c .before in
     rw (wide (l .before .before .before) .family2 .given .1, l .before .enum-told5 .given .1, ← l .widening-size .ensures) (c .register5 .ensures)
 
+returns-6 : tie.Need-returns-6
+returns-6 c = rw (c .before .enum-told6 .given .1) (c .register6 .ensures)
+
 -- what each arm is told and asks of its calls, then what it returns
 pub source-spec : {M : Type 1} → statement M
 source-spec =
@@ -36,4 +39,5 @@ source-spec =
     let long = segment (λ c. search needs) (λ c κs. search needs) (λ c κs. search needs) in
     let pairwise = long (λ c. search needs) (λ c. search needs) (λ c κs. search needs) (λ c κs. search needs) in
     let widening = pairwise (λ c. search needs) (λ c κs. search needs) (λ c κs. search needs) in
-    tie.close (widening returns returns-2 returns-3 returns-4 returns-5)
+    let made = widening (λ c. search needs) (λ c κs. search needs) in
+    tie.close (made returns returns-2 returns-3 returns-4 returns-5 returns-6)

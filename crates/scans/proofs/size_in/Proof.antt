@@ -1,4 +1,4 @@
--- `size_in` meets its contract: the place of the last byte among the letters.
+-- `size_in` meets its contract: the place of the byte among the letters.
 -- Assumes nothing.
 use mathlib.Core.Path.{_∙_, ap}
 use Prim.Native.Nat.{ℕ}
