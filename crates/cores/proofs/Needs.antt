@@ -11,7 +11,7 @@ use lib.ListN.{replicate}
 use borrow.Author.Tests.{le-ltb}
 use Rattle.facts.specs.Facts.{allFacts, noFacts, Implies, Among}
 use Rattle.facts.specs.declared.Facts.{Facts}
-use Rattle.rows.specs.Table.{table, rows, rowAt, lineForm}
+use Rattle.rows.specs.Table.{table, rowAt, lineForm}
 use Rattle.rows.proofs.Every.{every, at-each}
 use Rattle.rows.specs.declared.Row.{Row}
 use Rattle.cores.specs.declared.Need.{Need}

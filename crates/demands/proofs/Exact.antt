@@ -31,7 +31,7 @@ use Rattle.rows.specs.declared.Family.the-variants.{Low, Wide}
 use Rattle.rows.specs.declared.LowFamily.the-variants.{Reduction, Segment, Long}
 use Rattle.rows.specs.declared.WideFamily.the-variants.{Pairwise, Widening}
 use Rattle.sums.proofs.Widths.{width-legal}
-use Rattle.meaning.specs.Terms.{Operands, Source, Operand1, Operand2, Old, operandOf, Term, subtractedWhere, added, sumOf, governedTerm, freeTerm, dataBytes, halfTerm, firstTerm}
+use Rattle.meaning.specs.Terms.{Operands, Source, Operand2, operandOf, Term, subtractedWhere, added, sumOf, governedTerm, freeTerm, dataBytes, halfTerm, firstTerm}
 use Rattle.meaning.specs.Meaning.{familyTerms, widthAfter}
 use Rattle.meaning.specs.Execute.{operandsOf, maskOf, feeds, integerAfter, widthFor, lanesFor, writtenFor, destinationAfter}
 use Rattle.meaning.specs.Needs.{Executable}

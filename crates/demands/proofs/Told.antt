@@ -12,7 +12,7 @@ use lib.Seq.{take-take}
 use borrow.Author.Tests.{not-true, leb-true}
 use Rattle.parts.specs.Part.{part}
 use Rattle.parts.proofs.Same.{both-left}
-use Rattle.machine.specs.Size.{vectors, predicates, sizes, vectorBytes}
+use Rattle.machine.specs.Size.{sizes, vectorBytes}
 use Rattle.machine.specs.Refusal.{DONE}
 use Rattle.machine.proofs.Sizes.{of-four}
 use Rattle.registers.specs.Register.{Register, IsRegister, vectorOf, predicateOf, numbered, registerBytes}
@@ -51,8 +51,8 @@ use Rattle.about.specs.About.{readsDestination, rowTold, aboutAnswer}
 use Rattle.about.proofs.Answers.{row-is-told, sign-told, governing-told, second-told, reads-told}
 use Rattle.about.specs.declared.About.{About}
 use Rattle.about.specs.declared.Operand.{Operand}
-use Rattle.about.specs.declared.Operand.the-variants.{First, Second, Destination}
-use Rattle.meaning.specs.Terms.{Source, Operand1, Operand2, Old, Term, elementOf, operandOf}
+use Rattle.about.specs.declared.Operand.the-variants.{Destination}
+use Rattle.meaning.specs.Terms.{Source, Operand1, Operand2, Old, Term, operandOf}
 use Rattle.meaning.specs.Meaning.{familyTerms, widthAfter, lanesAfter}
 use Rattle.meaning.specs.Execute.{sourceOf, governingOf, operandsOf, maskOf, feeds, widthFor, lanesFor}
 use Rattle.meaning.specs.Needs.{Executable}

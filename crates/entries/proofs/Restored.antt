@@ -2,7 +2,7 @@
 -- the number and the bytes as they stand.
 -- Assumes nothing.
 use Prim.Native.Nat.{ℕ, _-_, _<_}
-use mathlib.Core.Path.{_≡_, refl, sym, _∙_, ap, ap₂}
+use mathlib.Core.Path.{_≡_, refl, _∙_, ap, ap₂}
 use mathlib.Core.List.{List}
 use native.Mathlib.Omega.{arith}
 use native.Mathlib.Nat.{min-eq-left}
@@ -10,7 +10,7 @@ use lib.ListN.{length, take, replicate, length-take}
 use lib.Seq.{take-at, take-all}
 use Rattle.machine.specs.Size.{vectors, vectorBytes}
 use Rattle.registers.specs.declared.Kind.{Kind}
-use Rattle.registers.specs.Register.{Register, vector, IsRegister, registerBytes, entryNumber, numbered, vectorOf, withVector, padded}
+use Rattle.registers.specs.Register.{Register, vector, IsRegister, registerBytes, vectorOf, withVector}
 use Rattle.registers.specs.State.{State, state, Sized, contents, read, write}
 use Rattle.registers.proofs.Numbers.{numbered-number, vector-number, vector-numbered}
 use Rattle.registers.proofs.Places.{bytes-most}

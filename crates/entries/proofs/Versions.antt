@@ -66,6 +66,10 @@ pub predicate-named : (version n : ℕ) → n < predicates → (version ≡ form
 predicate-named version n h other =
     rw (predicate-number n) (omega (arith, ap (λ (l : Layout). l .greatest) (later-line version other)))
 
+-- the former version has numbers of vectors alone
+pub former-vector : (n : ℕ) → n ≤ layoutOf formerVersion .greatest → n < vectors
+former-vector n h = omega (arith, ap (λ (l : Layout). l .greatest) former-line)
+
 pub former-names-none : (n : ℕ) → layoutOf formerVersion .greatest < entryNumber (predicate n)
 former-names-none n = rw (predicate-number n) (omega (arith, ap (λ (l : Layout). l .greatest) former-line))
 

@@ -67,7 +67,7 @@ module _ (c : Core) (program : List ℕ) (start : Buffers) (fresh : FreshStart (
         ahead = refl;
         walked = record {
           left = ap (buffersOf (start .files)) (fresh .fresh);
-          walkable = record { inside = omega arith; few = omega arith; fits = omega arith; accepted = λ i h. absurd (omega arith) };
+          walkable = record { inside = omega arith; few = omega arith; fits = omega arith; accepted = λ i h. absurd (omega arith); named = λ i h. absurd (omega arith) };
         };
       }
 
@@ -96,8 +96,8 @@ module _ (c : Core) (program : List ℕ) (start : Buffers) (fresh : FreshStart (
 
 -- demand 3, over any chain of a host's own calls
 pub demand-3 : Demand3
-demand-3 c program s version old fresh t sized versioned made calls =
-    let start = fresh-starts (c .k) version s old DONE fresh sized versioned made refl in
+demand-3 c program s version old fresh t sized made calls =
+    let start = fresh-starts (c .k) version s old DONE fresh sized made refl in
     reached-ahead c program (buffersOf s fresh) start t (calls-reached c program (buffersOf s fresh) start t calls)
 
 -- what travel leaves in code is what the steps leave one after the other, and so from a fresh start what the plain walk leaves

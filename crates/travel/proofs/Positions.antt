@@ -8,18 +8,15 @@ use mathlib.Core.List.{List, []}
 use native.Mathlib.Omega.{arith}
 use lib.ListN.{length}
 use Rattle.machine.specs.Size.{isLegal}
-use Rattle.machine.specs.Refusal.{DONE, lengthTests, refused}
-use Rattle.machine.proofs.Tests.{none-refused}
-use Rattle.entries.specs.Layout.{isVersion, positionOf, freshJournal, popped}
+use Rattle.machine.specs.Refusal.{DONE}
+use Rattle.entries.specs.Layout.{positionOf, freshJournal, popped}
 use Rattle.entries.specs.Formed.{Formed}
-use Rattle.entries.specs.Tests.{roomTests}
-use Rattle.entries.proofs.Formed.{length-legal, room-given}
 use Rattle.entries.proofs.Written.{position-pushed, formed-pushed, position-popped, position-some, formed-popped}
 use Rattle.entries.proofs.Closed.{position-closed, formed-none}
 use Rattle.journal.specs.Left.{Core, Buffers}
 use Rattle.journal.specs.Calls.{freshened, Freshened}
 use Rattle.journal.proofs.Left.{number-left, buffers-left}
-use Rattle.journal.proofs.Accepted.{fresh-number, fresh-done, position-accepts}
+use Rattle.journal.proofs.Accepted.{fresh-accepted, fresh-done, position-accepts}
 use Rattle.steps.specs.Calls.{Stepped, Backed}
 use Rattle.steps.proofs.Accepted.{step-accepted, back-accepted}
 use Rattle.travel.specs.Travel.{Trip, FreshStart, Ahead, PositionIs, OneOn}
@@ -31,15 +28,14 @@ told : (k n : ℕ) (journal : List ℕ) → isLegal k ≡ true → Formed k jour
 told k n journal legal formed e = rw (position-accepts k journal legal formed, e)
 
 -- a fresh journal's position is 0
-pub position-of-fresh : (k version : ℕ) (journal : List ℕ) (r : ℕ) (after : List ℕ) → isVersion version ≡ true → Freshened k version journal r after → r ≡ DONE
+pub position-of-fresh : (k version : ℕ) (journal : List ℕ) (r : ℕ) (after : List ℕ) → Freshened k version journal r after → r ≡ DONE
     → PositionIs k after 0
-position-of-fresh k version journal r after versioned made done =
+position-of-fresh k version journal r after made done =
     let e : freshened k version journal .number ≡ DONE = sym (number-left made) ∙ done in
-    let none = none-refused (lengthTests k) tt (refused (roomTests version (length journal))) (sym (fresh-number k version journal) ∙ e) in
-    let room = room-given version (length journal) _ refl (none .1) in
+    let known = fresh-accepted k version journal e in
     let left : after ≡ freshJournal version k (length journal) = buffers-left made ∙ fresh-done k version journal e in
     rw left
-    (told k 0 (freshJournal version k (length journal)) (length-legal k _ refl (none .0)) (formed-none version k (length journal) versioned room)
+    (told k 0 (freshJournal version k (length journal)) (known .legal) (formed-none version k (length journal) (known .versioned) (known .room))
     (position-closed version k (length journal) [] tt (omega arith)))
 
 -- an accepted step is one on

@@ -2,7 +2,7 @@
 -- in closed form stays one under an accepted step and an accepted step back.
 -- Assumes nothing.
 use Prim.Native.Nat.{ℕ, zero, suc, _≤_, _<_}
-use mathlib.Core.Path.{_≡_, refl, sym, _∙_, ap, ap₂}
+use mathlib.Core.Path.{_≡_, refl, _∙_, ap, ap₂, subst}
 use mathlib.Core.Bool.{Bool, true, false}
 use mathlib.Core.List.{List, [], _∷_}
 use native.Mathlib.Omega.{arith}
@@ -10,16 +10,17 @@ use lib.Dec.{ltb}
 use lib.ListN.{length, length-append}
 use borrow.Author.Tests.{ltb-true, ltb-false}
 use Rattle.machine.specs.Size.{mostWords}
+use Rattle.registers.specs.Register.{entryNumber}
 use Rattle.registers.specs.State.{State, Sized}
 use Rattle.programs.specs.Word.{wordAt, wordsOf}
 use Rattle.words.specs.Decode.{decoded}
 use Rattle.words.specs.declared.Decoded.the-variants.{Word}
 use Rattle.cores.specs.Core.{decodedOn}
 use Rattle.cores.proofs.Answers.{core-decodes}
-use Rattle.meaning.specs.Execute.{targetOf, executed}
+use Rattle.meaning.specs.Execute.{targetOf}
 use Rattle.meaning.specs.Needs.{Executable}
 use Rattle.meaning.proofs.Effects.{target-register, executed-sized}
-use Rattle.entries.specs.Layout.{versionOf, layoutOf, capacityFor, capacityOf, heldOf, positionOf, Entry, journalOf, pushed}
+use Rattle.entries.specs.Layout.{versionOf, layoutOf, greatestOf, capacityFor, capacityOf, heldOf, positionOf, Entry, journalOf}
 use Rattle.entries.specs.Formed.{Formed}
 use Rattle.entries.specs.Restored.{entryOf, restored}
 use Rattle.entries.proofs.Places.{slots-inside, room-least}
@@ -28,28 +29,44 @@ use Rattle.entries.proofs.Written.{full-room, formed-pushed}
 use Rattle.entries.proofs.Closed.{EntriesSized, RoomAfter, sized-more, version-closed, length-closed, held-closed, position-closed, formed-none, has-room, pushed-closed, last-closed, popped-closed}
 use Rattle.journal.specs.Left.{Core, Buffers, buffersOf}
 use Rattle.steps.specs.Calls.{carriedOut, stepped, backed}
-use Rattle.steps.proofs.Accepted.{executable, step-accepted, back-accepted, target-named}
+use Rattle.steps.proofs.Accepted.{executable, step-accepted, back-accepted}
 use Rattle.travel.specs.Walk.{fieldsIn, walkedState, walkedEntries, walkedBuffers, Walkable, AsWalked}
 use Rattle.travel.specs.Travel.{FreshStart}
 use Rattle.travel.proofs.Undone.{restored-executed}
 
+-- what holds of every number below n and of n
+one-more : (P : ℕ → Type 0) (n : ℕ) → ((i : ℕ) → i < n → P i) → P n → (i : ℕ) → i < suc n → P i
+one-more P n below at i h = go (ltb i n) refl
+  where
+    go : (t : Bool) → ltb i n ≡ t → P i
+    go true e = below i (ltb-true i n e)
+    go false e = let last : n ≡ i = omega (arith, ltb-false i n e) in subst P last at
+
 module _ (c : Core) (program : List ℕ) (start : Buffers) where
   -- fewer words can be walked as well
   pub walkable-less : (n : ℕ) → Walkable c program start (suc n) → Walkable c program start n
-  walkable-less n w = record { inside = omega (arith, w .inside); few = omega (arith, w .few); fits = omega (arith, w .fits); accepted = λ i h. w .accepted i (omega arith) }
+  walkable-less n w =
+      record {
+        inside = omega (arith, w .inside);
+        few = omega (arith, w .few);
+        fits = omega (arith, w .fits);
+        accepted = λ i h. w .accepted i (omega arith);
+        named = λ i h. w .named i (omega arith);
+      }
 
   -- and one more that is accepted
   walkable-more : (n : ℕ) → Walkable c program start n → suc n ≤ wordsOf (length program) → suc n ≤ mostWords → suc n ≤ capacityOf (c .k) (start .journal)
       → decodedOn (c .facts) (wordAt program n) ≡ Word (fieldsIn program n)
+      → entryNumber (targetOf (fieldsIn program n)) ≤ greatestOf (start .journal)
       → Walkable c program start (suc n)
-  walkable-more n w inside few fits next = record { inside = inside; few = few; fits = fits; accepted = accepted }
-    where
-      accepted : (i : ℕ) → i < suc n → decodedOn (c .facts) (wordAt program i) ≡ Word (fieldsIn program i)
-      accepted i h = go (ltb i n) refl
-        where
-          go : (t : Bool) → ltb i n ≡ t → decodedOn (c .facts) (wordAt program i) ≡ Word (fieldsIn program i)
-          go true e = w .accepted i (ltb-true i n e)
-          go false e = let last : i ≡ n = omega (arith, ltb-false i n e) in rw last next
+  walkable-more n w inside few fits next name =
+      record {
+        inside = inside;
+        few = few;
+        fits = fits;
+        accepted = one-more (λ i. decodedOn (c .facts) (wordAt program i) ≡ Word (fieldsIn program i)) n (w .accepted) next;
+        named = one-more (λ i. entryNumber (targetOf (fieldsIn program i)) ≤ greatestOf (start .journal)) n (w .named) name;
+      }
 
 module _ (c : Core) (program : List ℕ) (start : Buffers) (fresh : FreshStart (c .k) start) where
   -- the buffers' version and size
@@ -117,6 +134,10 @@ module _ (c : Core) (program : List ℕ) (start : Buffers) (fresh : FreshStart (
       let size = length-closed version (c .k) bytes (entries n) (h .whole) (fresh .versioned) inside in
       ap₂ (λ (header most : ℕ). capacityFor header (c .k) most) (ap (λ (number : ℕ). layoutOf number .header) is) size
 
+  -- its entries may have the numbers that the start's may
+  greatest : (n : ℕ) → Walkable c program start n → greatestOf (journal n) ≡ greatestOf (start .journal)
+  greatest n w = ap (λ (number : ℕ). layoutOf number .greatest) (version-closed version (c .k) bytes (entries n) (walked n w .whole) (fresh .versioned))
+
   -- the entry of a word that can be walked fits after those before it
   fits : (n : ℕ) → Walkable c program start (suc n) → RoomAfter version (c .k) bytes (entries n) (entry n)
   fits n w =
@@ -139,7 +160,7 @@ module _ (c : Core) (program : List ℕ) (start : Buffers) (fresh : FreshStart (
       let before = formed-walked n (walkable-less c program start n w) in
       rw (← pushed-closed version (c .k) bytes (entries n) (entry n) (fits n w))
       (formed-pushed (c .k) (entry n) (journal n) (has-room version (c .k) bytes (entries n) (entry n) (fits n w) before)
-      (target-named (fieldsIn program n) (c .k) (versionOf (journal n)) (after n) (executes n w)))
+      (rw (greatest n (walkable-less c program start n w)) (w .named n (omega arith))))
 
   -- an accepted step walks one word more
   step-walkable : (n : ℕ) → Walkable c program start n → stepped c program (at n) .number ≡ 0 → Walkable c program start (suc n)
@@ -148,6 +169,7 @@ module _ (c : Core) (program : List ℕ) (start : Buffers) (fresh : FreshStart (
       let room = full-room (c .k) (journal n) (a .room) (a .start .formed) in
       walkable-more c program start n w (rw (position n w) at (a .start .inside)) (rw (position n w) at (a .start .few)) (rw (held n w, holds n w) at room)
       (rw (position n w) at (a .word))
+      (rw (position n w, greatest n w) at (a .named))
 
   pub step-walks : (n : ℕ) → Walkable c program start n → stepped c program (at n) .number ≡ 0 → AsWalked c program start (suc n) (stepped c program (at n) .after)
   unfolding walkedState walkedEntries

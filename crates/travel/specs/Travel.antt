@@ -90,12 +90,11 @@ pub data Calls (c : Core) (program : List ℕ) (start : Buffers) : Trip → Type
   back : {t : Trip} {r : ℕ} {after : Buffers} → Calls c program start t → Backed (c .k) (t .buffers) r after
       → Calls c program start (wentOn 0 (leftWith r after) t)
 
--- demand 3: from any files of a legal length and a journal that the call made fresh, any chain of calls ends where the plain walk does after as
+-- demand 3: from any files of a legal length and a journal that the call made fresh, of whichever version it was told, any chain of calls ends where the plain walk does after as
 -- many words as the accepted steps forward exceed those back
 abbrev pub Demand3 : Type 0
 Demand3 =
-    (c : Core) (program : List ℕ) (s : State) (version : ℕ) (old fresh : List ℕ) (t : Trip) → Sized (c .k) s → isVersion version ≡ true
-    → Freshened (c .k) version old DONE fresh
+    (c : Core) (program : List ℕ) (s : State) (version : ℕ) (old fresh : List ℕ) (t : Trip) → Sized (c .k) s → Freshened (c .k) version old DONE fresh
     → Calls c program (buffersOf s fresh) t
     → Ahead c (buffersOf s fresh) program t
 

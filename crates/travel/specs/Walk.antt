@@ -4,6 +4,7 @@ use mathlib.Core.Path.{_≡_}
 use mathlib.Core.List.{List, [], _∷_, _++_}
 use lib.ListN.{length}
 use Rattle.machine.specs.Size.{mostWords}
+use Rattle.registers.specs.Register.{entryNumber}
 use Rattle.registers.specs.State.{State}
 use Rattle.programs.specs.Word.{wordAt, wordsOf}
 use Rattle.words.specs.Decode.{decoded, fieldsOf}
@@ -11,7 +12,7 @@ use Rattle.cores.specs.Core.{decodedOn}
 use Rattle.words.specs.declared.Fields.{Fields}
 use Rattle.words.specs.declared.Decoded.the-variants.{Word}
 use Rattle.meaning.specs.Execute.{targetOf, executed}
-use Rattle.entries.specs.Layout.{Entry, versionOf, capacityOf, journalOf}
+use Rattle.entries.specs.Layout.{Entry, versionOf, greatestOf, capacityOf, journalOf}
 use Rattle.entries.specs.Restored.{entryOf}
 use Rattle.journal.specs.Left.{Core, Buffers, buffersOf}
 
@@ -31,12 +32,13 @@ walkedEntries k program (suc n) s =
     walkedEntries k program n s ++ entryOf k (targetOf (fieldsIn program n)) (walkedState k program n s) ∷ []
 
 -- n words that can be walked on a core from a start: the program has them, no more than it may have, their entries fit into the start's journal,
--- and the core accepts each
+-- the core accepts each, and an entry of that journal may name the register that it writes
 pub record Walkable (c : Core) (program : List ℕ) (start : Buffers) (n : ℕ) : Type 0 where
   pub inside : n ≤ wordsOf (length program)
   pub few : n ≤ mostWords
   pub fits : n ≤ capacityOf (c .k) (start .journal)
   pub accepted : (i : ℕ) → i < n → decodedOn (c .facts) (wordAt program i) ≡ Word (fieldsIn program i)
+  pub named : (i : ℕ) → i < n → entryNumber (targetOf (fieldsIn program i)) ≤ greatestOf (start .journal)
 
 -- what the plain walk of n words leaves: the registers after them, and a journal of the start's version and size that holds their entries
 abbrev pub walkedBuffers : ℕ → List ℕ → Buffers → ℕ → Buffers

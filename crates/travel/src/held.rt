@@ -11,13 +11,13 @@ pub(crate) fn held_travel(
     k: usize,
     facts: Facts,
     z: &mut [u8],
-    p: &[u8],
+    p: &mut [u8],
     program: &[u8],
     journal: &mut [u8],
     directions: &[u8],
 ) -> Travelled
     ensures { λ r. ⌜ Made (coreOf k facts) (buffersOf (state (now (z .entry)) (now (p .entry))) (now (journal .entry))) (now (program .entry)) (now (directions .entry))
-        (buffersOf (state (now (z .exit)) (now (p .entry))) (now (journal .exit)))
+        (buffersOf (state (now (z .exit)) (now (p .exit))) (now (journal .exit)))
         r ⌝ }
 {
     crate::travel(k, facts, z, p, program, journal, directions)

@@ -23,13 +23,13 @@ fn go(
     k: usize,
     facts: Facts,
     z: &mut [u8],
-    p: &[u8],
+    p: &mut [u8],
     program: &[u8],
     journal: &mut [u8],
     direction: u8,
 ) -> u8
     ensures { λ r. ⌜ Gone (coreOf k facts) (now (program .entry)) direction (buffersOf (state (now (z .entry)) (now (p .entry))) (now (journal .entry))) r
-        (buffersOf (state (now (z .exit)) (now (p .entry))) (now (journal .exit))) ⌝ }
+        (buffersOf (state (now (z .exit)) (now (p .exit))) (now (journal .exit))) ⌝ }
 {
     if direction == BACK {
         return steps::back(k, z, p, journal);
@@ -62,13 +62,13 @@ pub fn travel(
     k: usize,
     facts: Facts,
     z: &mut [u8],
-    p: &[u8],
+    p: &mut [u8],
     program: &[u8],
     journal: &mut [u8],
     directions: &[u8],
 ) -> Travelled
     ensures { λ r. ⌜ Made (coreOf k facts) (buffersOf (state (now (z .entry)) (now (p .entry))) (now (journal .entry))) (now (program .entry)) (now (directions .entry))
-        (buffersOf (state (now (z .exit)) (now (p .entry))) (now (journal .exit)))
+        (buffersOf (state (now (z .exit)) (now (p .exit))) (now (journal .exit)))
         r ⌝ }
 {
     let mut made = Travelled {

@@ -2,8 +2,7 @@
 -- Assumes nothing.
 use borrow.Author.Needs.{needs}
 use Prim.Native.Nat.{ℕ, _/_}
-use mathlib.Core.Path.{_≡_, _∙_, ap, ap₂}
-use native.Mathlib.Omega.{arith}
+use mathlib.Core.Path.{_∙_, ap₂}
 use lib.Pow.{pow-pos}
 use Rattle.meaning.specs.Execute.{lanesMade}
 use Rattle.executes.proofs.lanes_for.Statement.{statement}
