@@ -1,4 +1,4 @@
-// Every family executed at three lengths on a core with all facts, with the destination among the sources; each line is what a walk shows of the step.
+// Every family executed at three lengths on a core with all facts, with a vector destination among the sources; each line is what a walk shows of the step.
 use libc::STDOUT_FILENO;
 use machine::Length;
 ghost use Prim.Native.Nat.{_≤_};
@@ -7,7 +7,7 @@ ghost use Rattle.machine.specs.Size.{mostLength};
 // The bytes of a journal that holds one entry of the longest register.
 const ONE_ENTRY: usize = entries::COUNT_AT + entries::COUNT + 1 + Length::MOST_BYTES;
 
-// Shows the step of a program's first word over filled vectors.
+// Shows the step of a program's first word over filled files.
 fn show_filled(k: usize, z: &mut [u8], p: &mut [u8], program: &[u8]) {
     let mut journal = [0u8; ONE_ENTRY];
     let mut out = [0u8; lines::MOST_LINE];
@@ -21,9 +21,9 @@ fn show_filled(k: usize, z: &mut [u8], p: &mut [u8], program: &[u8]) {
     }
 }
 
-// Steps with a fresh journal.
-fn fresh_step(k: usize, z: &mut [u8], p: &[u8], program: &[u8], journal: &mut [u8]) -> u8 {
-    journal::fresh(k, journal);
+// Steps with a fresh journal of the current version.
+fn fresh_step(k: usize, z: &mut [u8], p: &mut [u8], program: &[u8], journal: &mut [u8]) -> u8 {
+    journal::fresh(k, entries::CURRENT_VERSION, journal);
     steps::step(k, facts::all(), z, p, program, journal)
 }
 

@@ -24,13 +24,15 @@ unfoldable pub filledFrom : ℕ → ℕ → ℕ → List ℕ
 filledFrom cut zero value = []
 filledFrom cut (suc count) value = value % cut ∷ filledFrom cut count (nextValue value)
 
--- a word of every row, each with its destination among its sources
+-- at least one word of every row: each that writes a vector has it among its sources, and the first that makes a predicate makes the one that
+-- governs the others
 abbrev pub familyWords : List ℕ
 familyWords =
     (0x04002463 ∷ 0x04C12463 ∷ 0x04452463 ∷ 0x4E303863 ∷ 0x6EB03863 ∷ [])
     ++ (0x4444A463 ∷ 0x44C5A463 ∷ 0x45430063 ∷ 0x45830463 ∷ 0x45C30863 ∷ 0x45430C63 ∷ [])
     ++ (0x45441063 ∷ 0x45831483 ∷ 0x45C51863 ∷ 0x45431CA3 ∷ 0x45834063 ∷ 0x45C44463 ∷ [])
     ++ (0x45434883 ∷ 0x45854C63 ∷ 0x45C350A3 ∷ 0x45435463 ∷ 0x45845863 ∷ 0x45C35C83 ∷ [])
+    ++ (0x2558E3C1 ∷ 0x2558E123 ∷ 0x2518E40F ∷ [])
 
 -- a program with so many of its first words replaced by these, one after the other and again from the first
 unfoldable pub filledWords : ℕ → List ℕ → List ℕ

@@ -49,9 +49,10 @@ pub fn fill_predicates(p: &mut [u8])
 }
 
 // How many words there are.
-pub const COUNT: usize = 23;
+pub const COUNT: usize = 26;
 
-// The words that are executed, one of every row, each with its destination among its sources.
+// The words that are executed, at least one of every row: each that writes a vector has it among its sources, and the first that makes a predicate
+// makes the one that governs the others.
 const SADDV: u64 = 0x04002463;
 
 const UADDV: u64 = 0x04C12463;
@@ -98,6 +99,12 @@ const USUBWB: u64 = 0x45845863;
 
 const USUBWT: u64 = 0x45C35C83;
 
+const PTRUE_MULTIPLE: u64 = 0x2558E3C1;
+
+const PTRUE_FIXED: u64 = 0x2558E123;
+
+const PFALSE: u64 = 0x2518E40F;
+
 const WORDS: [u64; COUNT] = [
     SADDV,
     UADDV,
@@ -122,6 +129,9 @@ const WORDS: [u64; COUNT] = [
     SSUBWT,
     USUBWB,
     USUBWT,
+    PTRUE_MULTIPLE,
+    PTRUE_FIXED,
+    PFALSE,
 ];
 
 // Fills a program with those words, one after the other and again from the first.

@@ -1,33 +1,32 @@
--- `walk_fields` is safe: the destination lies in the vector file.
+-- `walk_fields` is safe: the register that the word writes lies in the file of its kind.
 -- Assumes nothing.
 use borrow.Author.Needs.{needs}
 use denote.Ref.{now}
-use Rattle.words.proofs.Decoding.{destination-in}
 use Rattle.registers.specs.State.{state}
-use Rattle.meaning.proofs.Sizes.{vector-in}
+use Rattle.registers.proofs.Places.{in-files}
+use Rattle.meaning.proofs.Effects.{target-is, target-register}
 use Rattle.plain.proofs.walk_fields.Statement.{statement}
 use Rattle.plain.proofs.walk_fields.Tie as tie
 
--- where the function started
-abbrev begin : tie.After-register-arg → tie.Start
-begin c = c .before .before .before .before
-
-register-requires : tie.Need-register-requires
-register-requires c κs =
-    let s = begin c in
-    vector-in (s .args .f) (s .args .k) (state (now (s .args .z)) (now (s .args .p))) (s .pre) (s .args .f .d) (destination-in (s .pre .fields))
+lay-target-requires : tie.Need-lay-target-requires
+lay-target-requires c κs =
+    let s = c .before .before .before .before .before .before .before in
+    let files = state (now (s .args .z)) (now (s .args .p)) in
+    in-files _ _ _ _ _ (s .pre .lent)
+    (rw (c .before .before .before .kind-written .ensures) (rw (target-is (s .args .f)) at (target-register _ _ files (s .pre))))
 
 pub walk-fields-spec : {M : Type 1} → statement M
 walk-fields-spec =
     tie.close
     (tie.spec
-    register-requires
-    (λ c. search needs)
-    (λ c. search needs)
-    (λ c. search needs)
-    (λ c κs. search needs)
-    (λ c κs. search needs)
-    (λ c κs. search needs)
-    (λ c. search needs)
-    (λ c. search needs)
-    (λ c. search needs))
+    (λ c κs. search needs)  -- kind-written-requires
+    lay-target-requires
+    (λ c. search needs)  -- same-length
+    (λ c. search needs)  -- same-length-2
+    (λ c. search needs)  -- same-length-3
+    (λ c. search needs)  -- returns
+    (λ c κs. search needs)  -- execute-requires
+    (λ c. search needs)  -- same-length-4
+    (λ c. search needs)  -- same-length-5
+    (λ c. search needs)  -- same-length-6
+    (λ c. search needs))  -- returns-2

@@ -11,12 +11,12 @@ use Rattle.plain.proofs.walk_word.Tie as tie
 
 -- where the function started
 abbrev start : tie.After-check-files → tie.Start
-start c = c .before .before .before .before .before
+start c = c .before .before .before .before .before .before
 
 -- the files passed their check, and the word decodes to its fields
 walk-fields-requires : tie.Need-walk-fields-requires
 walk-fields-requires c κs =
-    let found = c .before .before .before in
+    let found = c .before .before .before .before in
     let decode = found .before .before in
     let files = decode .before .before in
     let a = start files .args in
@@ -31,16 +31,20 @@ walk-word-spec =
     (tie.spec
     (λ c κs. search needs)  -- check-files-requires
     (λ c. search needs)  -- same-length
+    (λ c. search needs)  -- same-length-2
     (λ c. search needs)  -- returns
     (λ c κs. search needs)  -- decode-requires
     (λ c. search needs)  -- enum-told
     (λ c. search needs)  -- enum-told-2
     (λ c. search needs)  -- enum-known-decoded
     walk-fields-requires
-    (λ c. search needs)  -- same-length-2
-    (λ c. search needs)  -- returns-2
     (λ c. search needs)  -- same-length-3
-    (λ c. search needs)  -- returns-3
     (λ c. search needs)  -- same-length-4
+    (λ c. search needs)  -- returns-2
     (λ c. search needs)  -- same-length-5
+    (λ c. search needs)  -- same-length-6
+    (λ c. search needs)  -- returns-3
+    (λ c. search needs)  -- same-length-7
+    (λ c. search needs)  -- same-length-8
+    (λ c. search needs)  -- same-length-9
     (λ c. search needs))  -- returns-4

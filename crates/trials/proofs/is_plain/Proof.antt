@@ -7,7 +7,10 @@ use borrow.Author.Needs.{needs}
 use Rattle.trials.proofs.is_plain.Statement.{statement}
 use Rattle.trials.proofs.is_plain.Tie as tie
 
--- the journal's part
+-- the predicate file's part and the journal's
+predicates : tie.Need-array-borrow-prefix-plain-p
+predicates c = search needs
+
 held : tie.Need-array-borrow-prefix-plain-journal
 held c = search needs
 
@@ -17,6 +20,8 @@ is-plain-spec =
     (tie.spec
     (λ c. search needs)
     (λ c. sym (length-take-le _ _ (omega arith)))
+    predicates
+    (λ c. sym (length-take-le _ _ (predicates (c .before))))
     held
     (λ c. sym (length-take-le _ _ (held (c .before))))
     (λ c κs. search needs)
