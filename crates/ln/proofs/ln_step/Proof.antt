@@ -22,6 +22,10 @@ known c = c .before .before .before .before
 abbrev stepped : tie.After-slice-known6 → tie.After-step
 stepped c = c .before .before .before .before .before .before
 
+-- what the step leaves
+abbrev left : tie.After-step → Buffers
+left t = buffersOf (state (t .step .last .1 .1 .0) (t .step .last .1 .1 .1 .0)) (t .step .last .1 .1 .1 .1 .1 .0)
+
 -- a step on equal facts
 same-core : (k : ℕ) (f g : Facts) (program : List ℕ) (b : Buffers) (r : ℕ) (after : Buffers) → f ≡ g → Stepped (coreOf k f) program b r after
     → Stepped (coreOf k g) program b r after
@@ -32,7 +36,7 @@ returns c =
     let t = stepped c in
     let a = known t .before .before .before .before .before .args in
     let made : Stepped (coreOf (a .k) (factsOf (a .facts))) (now (a .program)) (buffersOf (state (now (a .z)) (now (a .p))) (now (a .journal))) (t .step .result)
-    (buffersOf (state (t .step .last .1 .1 .0) (t .step .last .1 .1 .1 .0)) (t .step .last .1 .1 .1 .1 .1 .0)) = same-core _ _ _ _ _ _ _ (known t .facts-of .ensures) (t .step .ensures) in
+    (left t) = same-core _ _ _ _ _ _ _ (known t .facts-of .ensures) (t .step .ensures) in
     let number = number-left (made .leaves) in
     search needs
 
