@@ -13,7 +13,6 @@ use Rattle.about.specs.About.{aboutAnswer}
 use Rattle.assembles.specs.Assembled.{Assembled}
 use Rattle.assembles.proofs.Theorems.{assemble-determined}
 use Rattle.programs.specs.Word.{nextWord}
-use Rattle.entries.specs.Layout.{firstVersion}
 use Rattle.journal.specs.Left.{coreOf, Buffers}
 use Rattle.journal.specs.Calls.{positionAnswer, entryAnswer, Freshened}
 use Rattle.journal.proofs.Answers.{fresh-determined}
@@ -52,9 +51,9 @@ ln-read-word-determined program at = one-result (wordOut (nextWord program at))
 pub ln-read-session-determined : (bytes : List ℕ) (r q : LnSession) → SessionRead bytes r → SessionRead bytes q → r ≡ q
 ln-read-session-determined bytes = one-result (sessionOut (sessionOf bytes))
 
-pub ln-fresh-determined : (k : ℕ) (journal : List ℕ) (r q : ℕ) (a b : List ℕ) → Freshened k firstVersion journal r a → Freshened k firstVersion journal q b
+pub ln-fresh-determined : (k version : ℕ) (journal : List ℕ) (r q : ℕ) (a b : List ℕ) → Freshened k version journal r a → Freshened k version journal q b
     → (r ≡ q) × (a ≡ b)
-ln-fresh-determined k = fresh-determined k firstVersion
+ln-fresh-determined = fresh-determined
 
 pub ln-position-determined : (k : ℕ) (journal : List ℕ) (r q : LnAnswer) → PositionTold k journal r → PositionTold k journal q → r ≡ q
 ln-position-determined k journal = one-result (answerOut (positionAnswer k journal))

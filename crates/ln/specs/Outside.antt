@@ -29,7 +29,7 @@ use Rattle.ln.specs.declared.LnWord.{LnWord}
 
 -- the version of the header that the library is for
 abbrev pub libraryVersion : ℕ
-libraryVersion = 7
+libraryVersion = 8
 
 -- a flag of C: every number but 0 says yes; one that is told is 1 or 0
 abbrev pub isSet : ℕ → Bool
@@ -47,7 +47,7 @@ answerIn a = record { number = a .number; value = a .value }
 
 -- a number with a word's fields
 abbrev pub fieldsOut : ℕ → Fields → LnFields
-fieldsOut n f = record { number = n; row = f .row; size = f .size; n = f .n; d = f .d; g = f .g; m = f .m; q = f .q }
+fieldsOut n f = record { number = n; row = f .row; size = f .size; n = f .n; d = f .d; g = f .g; m = f .m; q = f .q; pattern = f .pattern }
 
 abbrev pub decodedOut : Decoded → LnFields
 decodedOut d = fieldsOut (numberOf d) (fieldsOf d)
@@ -103,4 +103,7 @@ aboutOut a =
       «n_bytes» = a .«n_bytes»;
       «m_bytes» = a .«m_bytes»;
       «d_bytes» = a .«d_bytes»;
+      «has_n» = flagFor (a .«has_n»);
+      «has_pattern» = flagFor (a .«has_pattern»);
+      «writes_predicate» = flagFor (a .«writes_predicate»);
     }

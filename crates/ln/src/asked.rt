@@ -171,5 +171,8 @@ pub extern "C" fn ln_read_row(row: usize) -> LnRowAbout
         n_bytes,
         m_bytes,
         d_bytes,
+        has_n: flag(told.has_n),
+        has_pattern: flag(told.has_pattern),
+        writes_predicate: flag(told.writes_predicate),
     }
 }

@@ -12,7 +12,6 @@ ghost use Rattle.registers.specs.State.{state};
 ghost use Rattle.facts.specs.Facts.{factsOf};
 ghost use Rattle.names.specs.Named.{Named};
 ghost use Rattle.assembles.specs.Assembled.{Assembled};
-ghost use Rattle.entries.specs.Layout.{firstVersion};
 ghost use Rattle.journal.specs.Left.{coreOf, buffersOf};
 ghost use Rattle.journal.specs.Calls.{Freshened};
 ghost use Rattle.steps.specs.Calls.{Stepped, Backed};
@@ -75,12 +74,12 @@ pub(crate) fn held_read_session(bytes: &[u8]) -> LnSession
 }
 
 // A step's line by the host's call: the answer and every byte of the output.
-pub(crate) fn held_write_line(
+pub(crate) fn held_write_line<'a>(
     out: &mut [u8],
     k: usize,
     facts: u8,
-    z: &[u8],
-    p: &[u8],
+    z: &'a [u8],
+    p: &'a [u8],
     program: &[u8],
     position: usize,
     number: u64,
@@ -91,32 +90,32 @@ pub(crate) fn held_write_line(
     crate::ln_write_line(out, k, facts, z, p, program, position, number)
 }
 
-// A fresh journal by the host's call: the number, and every byte of the journal.
-pub(crate) fn held_fresh(k: usize, journal: &mut [u8]) -> u64
-    ensures { λ r. ⌜ Freshened k firstVersion (now (journal .entry)) r (now (journal .exit)) ⌝ }
+// A fresh journal of the version told by the host's call: the number, and every byte of the journal.
+pub(crate) fn held_fresh(k: usize, version: u64, journal: &mut [u8]) -> u64
+    ensures { λ r. ⌜ Freshened k version (now (journal .entry)) r (now (journal .exit)) ⌝ }
 {
-    crate::ln_fresh(k, journal)
+    crate::ln_fresh(k, version, journal)
 }
 
-// A step by the host's call: the number, the state and every byte of the journal.
+// A step by the host's call: the number, every byte of both files and every byte of the journal.
 pub(crate) fn held_step(
     k: usize,
     facts: u8,
     z: &mut [u8],
-    p: &[u8],
+    p: &mut [u8],
     program: &[u8],
     journal: &mut [u8],
 ) -> u64
     ensures { λ r. ⌜ Stepped (coreOf k (factsOf facts)) (now (program .entry)) (buffersOf (state (now (z .entry)) (now (p .entry))) (now (journal .entry))) r
-        (buffersOf (state (now (z .exit)) (now (p .entry))) (now (journal .exit))) ⌝ }
+        (buffersOf (state (now (z .exit)) (now (p .exit))) (now (journal .exit))) ⌝ }
 {
     crate::ln_step(k, facts, z, p, program, journal)
 }
 
-// A step back by the host's call: the number, the state and every byte of the journal.
-pub(crate) fn held_back(k: usize, z: &mut [u8], p: &[u8], journal: &mut [u8]) -> u64
+// A step back by the host's call: the number, every byte of both files and every byte of the journal.
+pub(crate) fn held_back(k: usize, z: &mut [u8], p: &mut [u8], journal: &mut [u8]) -> u64
     ensures { λ r. ⌜ Backed k (buffersOf (state (now (z .entry)) (now (p .entry))) (now (journal .entry)))
-        r (buffersOf (state (now (z .exit)) (now (p .entry))) (now (journal .exit))) ⌝ }
+        r (buffersOf (state (now (z .exit)) (now (p .exit))) (now (journal .exit))) ⌝ }
 {
     crate::ln_back(k, z, p, journal)
 }

@@ -8,7 +8,6 @@ ghost use Rattle.facts.specs.Facts.{factsOf};
 ghost use Rattle.words.specs.Decode.{noFields};
 ghost use Rattle.names.specs.Named.{Named};
 ghost use Rattle.assembles.specs.Assembled.{Assembled};
-ghost use Rattle.entries.specs.Layout.{firstVersion};
 ghost use Rattle.journal.specs.Left.{coreOf, buffersOf};
 ghost use Rattle.journal.specs.Calls.{Freshened};
 ghost use Rattle.steps.specs.Calls.{Stepped, Backed};
@@ -37,6 +36,7 @@ pub struct LnFields {
     pub g: u64,
     pub m: u64,
     pub q: u64,
+    pub pattern: u64,
 }
 
 // Where a register stands: in which file, its first byte and how many; 0 with a refusal.
@@ -88,8 +88,8 @@ pub struct LnEntry {
     pub bytes: u64,
 }
 
-// What a row is: flags, the byte of facts of which one is enough, and for sizes 0 to 3 the bytes of the lanes that its words read and write;
-// 0 with a refusal.
+// What a row is: flags, the byte of facts of which one is enough, and for sizes 0 to 3 the bytes of the lanes that its words read and write,
+// or that a predicate which they write governs; 0 with a refusal.
 #[repr(C)]
 pub struct LnRowAbout {
     pub number: u64,
@@ -102,10 +102,13 @@ pub struct LnRowAbout {
     pub n_bytes: [u64; 4],
     pub m_bytes: [u64; 4],
     pub d_bytes: [u64; 4],
+    pub has_n: u64,
+    pub has_pattern: u64,
+    pub writes_predicate: u64,
 }
 
 // The version of the header that the library is for.
-const VERSION: u64 = 7;
+const VERSION: u64 = 8;
 
 // The version of the header that the library is for.
 #[no_mangle]
@@ -130,6 +133,7 @@ pub extern "C" fn ln_decode(word: u32, facts: u8) -> LnFields
             g: f.g as u64,
             m: f.m as u64,
             q: f.q as u64,
+            pattern: f.pattern as u64,
         },
         Decoded::Unknown => no_fields(refusal::UNKNOWN),
         Decoded::Undefined => no_fields(refusal::UNDEFINED),
@@ -149,6 +153,7 @@ fn no_fields(number: u8) -> LnFields
         g: 0,
         m: 0,
         q: 0,
+        pattern: 0,
     }
 }
 
@@ -208,12 +213,12 @@ pub extern "C" fn ln_read_session(bytes: &[u8]) -> LnSession
 
 // The line of a step at the front of the output, or LENGTH, FILE, PROGRAM, END, OUT, UNKNOWN or UNDEFINED.
 #[no_mangle]
-pub extern "C" fn ln_write_line(
+pub extern "C" fn ln_write_line<'a>(
     out: &mut [u8],
     k: usize,
     facts: u8,
-    z: &[u8],
-    p: &[u8],
+    z: &'a [u8],
+    p: &'a [u8],
     program: &[u8],
     position: usize,
     number: u64,
@@ -229,35 +234,36 @@ pub extern "C" fn ln_write_line(
     }
 }
 
-// A fresh journal of the lent size, or LENGTH or ROOM.
+// A fresh journal of the version told and of the lent size, whatever the bytes that are lent; or LENGTH, ROOM or JOURNAL.
 #[no_mangle]
-pub extern "C" fn ln_fresh(k: usize, journal: &mut [u8]) -> u64
-    ensures { λ r. ⌜ Freshened k firstVersion (now (journal .entry)) r (now (journal .exit)) ⌝ }
+pub extern "C" fn ln_fresh(k: usize, version: u64, journal: &mut [u8]) -> u64
+    ensures { λ r. ⌜ Freshened k version (now (journal .entry)) r (now (journal .exit)) ⌝ }
 {
-    journal::fresh(k, journal) as u64
+    journal::fresh(k, version as usize, journal) as u64
 }
 
-// Executes the word at the position on a core and appends its entry, or LENGTH, FILE, PROGRAM, ROOM, JOURNAL, END, UNKNOWN, UNDEFINED or FULL.
+// Executes the word at the position on a core and appends its entry, or LENGTH, FILE, PROGRAM, ROOM, JOURNAL, END, UNKNOWN, UNDEFINED, JOURNAL
+// where the word writes a predicate and the journal is of the former version, or FULL.
 #[no_mangle]
 pub extern "C" fn ln_step(
     k: usize,
     facts: u8,
     z: &mut [u8],
-    p: &[u8],
+    p: &mut [u8],
     program: &[u8],
     journal: &mut [u8],
 ) -> u64
     ensures { λ r. ⌜ Stepped (coreOf k (factsOf facts)) (now (program .entry)) (buffersOf (state (now (z .entry)) (now (p .entry))) (now (journal .entry))) r
-        (buffersOf (state (now (z .exit)) (now (p .entry))) (now (journal .exit))) ⌝ }
+        (buffersOf (state (now (z .exit)) (now (p .exit))) (now (journal .exit))) ⌝ }
 {
     steps::step(k, facts::facts_of(facts), z, p, program, journal) as u64
 }
 
 // Takes the last step back, or LENGTH, FILE, ROOM, JOURNAL or EMPTY.
 #[no_mangle]
-pub extern "C" fn ln_back(k: usize, z: &mut [u8], p: &[u8], journal: &mut [u8]) -> u64
+pub extern "C" fn ln_back(k: usize, z: &mut [u8], p: &mut [u8], journal: &mut [u8]) -> u64
     ensures { λ r. ⌜ Backed k (buffersOf (state (now (z .entry)) (now (p .entry))) (now (journal .entry)))
-        r (buffersOf (state (now (z .exit)) (now (p .entry))) (now (journal .exit))) ⌝ }
+        r (buffersOf (state (now (z .exit)) (now (p .exit))) (now (journal .exit))) ⌝ }
 {
     steps::back(k, z, p, journal) as u64
 }

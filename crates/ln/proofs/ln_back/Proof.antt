@@ -7,9 +7,9 @@ use Rattle.ln.proofs.ln_back.Tie as tie
 
 returns : tie.Need-returns
 returns c =
-    let told = c .before .before .before .before .back .ensures in
+    let told = c .before .before .before .before .before .before .back .ensures in
     let number = number-left (told .leaves) in
     search needs
 
 pub ln-back-spec : {M : Type 1} → statement M
-ln-back-spec = tie.close (tie.spec (λ c κs. search needs) (λ c. search needs) (λ c. search needs) (λ c. search needs) returns)
+ln-back-spec = tie.close (tie.spec (λ c κs. search needs) (λ c. search needs) (λ c. search needs) (λ c. search needs) (λ c. search needs) returns)

@@ -16,11 +16,15 @@ use Rattle.ln.proofs.ln_step.Tie as tie
 
 -- where the facts are known
 abbrev known : tie.After-step → tie.After-facts-of
-known c = c .before .before .before
+known c = c .before .before .before .before
 
 -- where the step is done
-abbrev stepped : tie.After-slice-known4 → tie.After-step
-stepped c = c .before .before .before .before
+abbrev stepped : tie.After-slice-known6 → tie.After-step
+stepped c = c .before .before .before .before .before .before
+
+-- what the step leaves
+abbrev left : tie.After-step → Buffers
+left t = buffersOf (state (t .step .last .1 .1 .0) (t .step .last .1 .1 .1 .0)) (t .step .last .1 .1 .1 .1 .1 .0)
 
 -- a step on equal facts
 same-core : (k : ℕ) (f g : Facts) (program : List ℕ) (b : Buffers) (r : ℕ) (after : Buffers) → f ≡ g → Stepped (coreOf k f) program b r after
@@ -32,9 +36,9 @@ returns c =
     let t = stepped c in
     let a = known t .before .before .before .before .before .args in
     let made : Stepped (coreOf (a .k) (factsOf (a .facts))) (now (a .program)) (buffersOf (state (now (a .z)) (now (a .p))) (now (a .journal))) (t .step .result)
-    (buffersOf (state (t .step .last .1 .1 .0) (now (a .p))) (t .step .last .1 .1 .1 .1 .1 .0)) = same-core _ _ _ _ _ _ _ (known t .facts-of .ensures) (t .step .ensures) in
+    (left t) = same-core _ _ _ _ _ _ _ (known t .facts-of .ensures) (t .step .ensures) in
     let number = number-left (made .leaves) in
     search needs
 
 pub ln-step-spec : {M : Type 1} → statement M
-ln-step-spec = tie.close (tie.spec (λ c κs. search needs) (λ c κs. search needs) (λ c. search needs) (λ c. search needs) (λ c. search needs) returns)
+ln-step-spec = tie.close (tie.spec (λ c κs. search needs) (λ c κs. search needs) (λ c. search needs) (λ c. search needs) (λ c. search needs) (λ c. search needs) returns)
