@@ -5,7 +5,7 @@ use ghishmadul::{Facts, Refusal};
 
 type Assemble = fn(&[u8], Facts) -> Result<u32, Refusal>;
 type Text = fn(u32, Facts, &mut [u8]) -> Result<usize, Refusal>;
-type Step = fn(usize, Facts, &mut [u8], &[u8], &[u8], &mut [u8]) -> Result<(), Refusal>;
+type Step = fn(usize, Facts, &mut [u8], &mut [u8], &[u8], &mut [u8]) -> Result<(), Refusal>;
 
 /// One step of one word: Z0 and Z1 before it, P0, and Z0 after it. Each pattern fills its register.
 struct Case {
@@ -214,11 +214,14 @@ fn run(side: &str, case: &Case, assemble: Assemble, step: Step) {
 
     let facts = Facts::ALL;
     let program = assemble(case.text.as_bytes(), facts).expect(case.text).to_le_bytes();
-    let mut journal = vec![0; 8 + 1 + bytes];
-    reference::fresh(case.k, &mut journal).expect("a legal length");
-    let answer = step(case.k, facts, &mut z, &p, &program, &mut journal);
-    assert_eq!(answer, Ok(()), "{} {}", side, case.name);
-    assert!(z == after, "{} {}", side, case.name);
+    let predicates = p.clone();
+    for version in [1, 2] {
+        let (mut z, mut journal) = (z.clone(), vec![0; 8 + 1 + bytes]);
+        reference::fresh(case.k, version, &mut journal).expect("a legal length");
+        let answer = step(case.k, facts, &mut z, &mut p, &program, &mut journal);
+        assert_eq!(answer, Ok(()), "{} {}", side, case.name);
+        assert!(z == after && p == predicates, "{} {}", side, case.name);
+    }
 }
 
 fn run_all(cases: &[Case]) {

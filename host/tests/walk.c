@@ -72,7 +72,7 @@ static void walk(size_t bytes)
     z_bytes = LN_VECTOR_FILE_BYTES(parts.k);
     p_bytes = LN_PREDICATE_FILE_BYTES(parts.k);
     program_bytes = LN_WORD_BYTES * parts.count;
-    ln_fresh(parts.k, journal, sizeof journal);
+    ln_fresh(parts.k, LN_JOURNAL_VERSION, journal, sizeof journal);
 
     for (;;) {
         size_t position = (size_t)ln_position(parts.k, journal, sizeof journal).value;
