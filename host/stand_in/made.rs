@@ -1,6 +1,6 @@
 //! Words that make a predicate and journals of both versions, with the slip that is named; none if none is.
 
-use crate::slips::slips;
+use crate::slips::{count, slips};
 use ghishmadul::Refusal;
 use reference::{pattern_lanes, Entry, Fields, TABLE};
 use std::borrow::Cow;
@@ -67,9 +67,8 @@ pub fn read_as(text: &[u8]) -> Cow<'_, [u8]> {
 
 /// The numbers of the entries that a journal counts.
 fn numbers(k: usize, journal: &mut [u8]) -> impl Iterator<Item = &mut u8> {
-    let count = journal.get(6..8).map_or(0, |count| u16::from_le_bytes([count[0], count[1]]));
-    let entry = 1 + 16 * k.min(16);
-    journal.iter_mut().skip(8).step_by(entry).take(count.into())
+    let (many, entry) = (count(journal).unwrap_or(0), 1 + 16 * k.min(16));
+    journal.iter_mut().skip(8).step_by(entry).take(many)
 }
 
 /// The journal that is looked at in the place of this one.
@@ -107,7 +106,7 @@ pub fn back(k: usize, z: &mut [u8], p: &mut [u8], journal: &mut [u8]) -> Result<
         answer => answer,
     };
     answer?;
-    let last = 8 + (1 + 16 * k) * reference::position(k, journal).map_or(0, |count| count);
+    let last = 8 + (1 + 16 * k) * count(journal).expect("a journal");
     if before[last] < P0 {
         return answer;
     }
@@ -213,8 +212,7 @@ pub fn slip(lent: &mut Lent<'_>, before: [Vec<u8>; 3], fields: Fields) {
     if slips("a made predicate clears a vector") {
         z[fields.d * 16 * k..][..16 * k].fill(0);
     }
-    let count = reference::position(k, journal).expect("a well-formed journal");
-    let entry = 8 + (count - 1) * (1 + 16 * k);
+    let entry = 8 + (count(journal).expect("a journal") - 1) * (1 + 16 * k);
     let padding = entry + 1 + 2 * k..entry + 1 + 16 * k;
     if slips("an entry's padding left as it stood") {
         journal[padding.clone()].copy_from_slice(&old_journal[padding]);

@@ -173,7 +173,7 @@ pub fn back(k: usize, z: &mut [u8], p: &mut [u8], journal: &mut [u8]) -> Result<
 }
 
 /// The number in the two bytes of a journal's count.
-fn count(journal: &[u8]) -> Option<usize> {
+pub fn count(journal: &[u8]) -> Option<usize> {
     Some(u16::from_le_bytes([*journal.get(6)?, *journal.get(7)?]) as usize)
 }
 
