@@ -352,7 +352,7 @@ static inline const char *ln_refusal_text(uint64_t number)
         "the vector file has not 512k bytes, or the predicate file not 32k",
         "the program is not whole words, or has over 256 of them",
         "the journal has under 8 or over 65,536 bytes",
-        "the journal is not well formed",
+        "the journal is not well formed, or its version has no place for this",
         "the program has no word at this place",
         "no row of the table matches the word",
         "a row matches the word, but the size is not allowed or the facts lack what the row needs",
@@ -384,9 +384,10 @@ static inline const char *ln_row_name(uint64_t row)
 static inline const char *ln_pattern_name(uint64_t pattern)
 {
     static const char *const names[] = {
-        "pow2", "vl1",  "vl2",   "vl3",   "vl4", "vl5", "vl6", "vl7", "vl8", "vl16", "vl32",
-        "vl64", "vl128", "vl256", "#14",  "#15", "#16", "#17", "#18", "#19", "#20",  "#21",
-        "#22",  "#23",  "#24",   "#25",   "#26", "#27", "#28", "mul4", "mul3", "all",
+        "pow2", "vl1",  "vl2",  "vl3",  "vl4",   "vl5",   "vl6",  "vl7",
+        "vl8",  "vl16", "vl32", "vl64", "vl128", "vl256", "#14",  "#15",
+        "#16",  "#17",  "#18",  "#19",  "#20",   "#21",   "#22",  "#23",
+        "#24",  "#25",  "#26",  "#27",  "#28",   "mul4",  "mul3", "all",
     };
 
     return pattern < LN_PATTERNS ? names[pattern] : "no pattern";
@@ -524,7 +525,7 @@ struct ln_answer ln_assemble(const uint8_t *text, size_t text_len, uint8_t facts
 
 /* Writes a fresh journal of a version, LN_JOURNAL_VERSION or LN_FORMER_JOURNAL_VERSION: the header with that
  * version and count 0, and zeros after it. What the bytes were does not matter.
- * LN_LENGTH, LN_ROOM; LN_JOURNAL: `version` is every other number of its 64 bits. */
+ * LN_LENGTH, LN_ROOM; LN_JOURNAL: `version` is any other number of 64 bits. */
 uint64_t ln_fresh(size_t k, uint64_t version, uint8_t *journal, size_t journal_len);
 
 /* Executes the word at the journal's position and appends the destination's old bytes to the journal:

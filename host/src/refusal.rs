@@ -27,8 +27,8 @@ pub enum Refusal {
     Program,
     /// 4: the journal has under 8 or over 65,536 bytes.
     Room,
-    /// 5: the journal is not well formed, or of a version that has no entry for the step, or the version told is
-    /// none.
+    /// 5: the journal is not well formed, or of a version that has no entry for the step; or a fresh one was told
+    /// a version that there is not.
     Journal,
     /// 6: the place is not below the number of words.
     End,
@@ -71,7 +71,7 @@ impl Refusal {
             }
             Program => (3, "PROGRAM", "the program is not whole words, or has over 256 of them"),
             Room => (4, "ROOM", "the journal has under 8 or over 65,536 bytes"),
-            Journal => (5, "JOURNAL", "the journal is not well formed"),
+            Journal => (5, "JOURNAL", "the journal is not well formed, or its version has no place for this"),
             End => (6, "END", "the program has no word at this place"),
             Unknown => (7, "UNKNOWN", "no row of the table matches the word"),
             Undefined => (

@@ -119,7 +119,7 @@ pub fn back(k: usize, z: &mut [u8], p: &mut [u8], journal: &mut [u8]) -> Result<
     if slips("a predicate's padding left at a back") {
         journal[padding.clone()].copy_from_slice(&before[padding.clone()]);
     }
-    if slips("a predicate's padding added at a back") && padding.len() > 2 * k {
+    if slips("a predicate's padding added at a back") {
         p[number * 2 * k] |= before[padding.start];
     }
     answer
@@ -176,7 +176,7 @@ fn lanes(pattern: usize, count: usize) -> usize {
         1..=13 if slips("a fixed number above the count taken for all") && right == 0 => count,
         14..=28 if slips("a pattern without a name taken for all") => count,
         MUL4 if slips("mul3 for mul4") => pattern_lanes(MUL3, count),
-        MUL3 if slips("mul3 one too low") => right - 3,
+        MUL3 if slips("mul3 one too low") => right.saturating_sub(3),
         POW2 if slips("the largest power taken below the count") => right / 2,
         9 if slips("vl16 taken for nine lanes") => 9.min(count),
         ALL if slips("the last lane left out of all") => count - 1,
@@ -184,43 +184,47 @@ fn lanes(pattern: usize, count: usize) -> usize {
     }
 }
 
-/// Changes what an accepted step that makes a predicate wrote; the bytes before it come with it.
+/// Changes what an accepted step that makes a predicate wrote; the bytes before it come with it: both files and the
+/// journal.
 pub fn slip(lent: &mut Lent<'_>, before: [Vec<u8>; 3], fields: Fields) {
-    let Lent { k, z, p, journal } = lent;
-    let k = *k;
-    let [old_vectors, old_predicates, old_journal] = before;
+    let k = lent.k;
+    let [vectors, predicates, journal] = before;
     let register = fields.d * 2 * k..(fields.d + 1) * 2 * k;
-    let old = &old_predicates[register.clone()];
-    let width = 1 << fields.size;
-    let bit = |at: usize| 1 << (at % 8);
+    let (made, old) = (&mut lent.p[register.clone()], &predicates[register]);
     if fields.row == PTRUE {
-        let active = lanes(fields.pattern, 16 * k / width);
-        let made = &mut p[register.clone()];
-        let kept = slips("bits between the lanes kept");
-        for at in 0..16 * k {
-            let lane = at / width < active;
-            let set = match at % width {
-                0 => lane,
-                _ if kept => old[at / 8] & bit(at) != 0,
-                _ => lane && slips("a bit for every byte of a lane"),
-            };
-            made[at / 8] = made[at / 8] & !bit(at) | if set { bit(at) } else { 0 };
-        }
+        set_bits(made, old, fields);
     } else if slips("pfalse leaves the last byte") {
-        p[register.end - 1] = old[2 * k - 1];
+        made[2 * k - 1] = old[2 * k - 1];
     }
+    let vector = fields.d * 16 * k..(fields.d + 1) * 16 * k;
     if slips("a made predicate clears a vector") {
-        z[fields.d * 16 * k..][..16 * k].fill(0);
+        lent.z[vector.clone()].fill(0);
     }
-    let entry = 8 + (count(journal).expect("a journal") - 1) * (1 + 16 * k);
+    let entry = 8 + (count(lent.journal).expect("a journal") - 1) * (1 + 16 * k);
     let padding = entry + 1 + 2 * k..entry + 1 + 16 * k;
     if slips("an entry's padding left as it stood") {
-        journal[padding.clone()].copy_from_slice(&old_journal[padding]);
+        lent.journal[padding.clone()].copy_from_slice(&journal[padding]);
     } else if slips("the vector of its number kept for a predicate") {
-        let vector = &old_vectors[fields.d * 16 * k..][..16 * k];
-        journal[entry + 1..][..16 * k].copy_from_slice(vector);
+        lent.journal[entry + 1..][..16 * k].copy_from_slice(&vectors[vector]);
     } else if slips("a made predicate's entry without the 32") {
-        journal[entry] -= P0;
+        lent.journal[entry] -= P0;
+    }
+}
+
+/// Sets the bits of the lanes that a slip makes active, and at no lane's place those that a slip leaves or adds there.
+fn set_bits(made: &mut [u8], old: &[u8], fields: Fields) {
+    let (bits, width) = (8 * made.len(), 1 << fields.size);
+    let active = lanes(fields.pattern, bits / width);
+    let (kept, all) =
+        (slips("bits between the lanes kept"), slips("a bit for every byte of a lane"));
+    for at in 0..bits {
+        let (bit, lane) = (1 << (at % 8), at / width < active);
+        let set = match at % width {
+            0 => lane,
+            _ if kept => old[at / 8] & bit != 0,
+            _ => lane && all,
+        };
+        made[at / 8] = made[at / 8] & !bit | if set { bit } else { 0 };
     }
 }
 
