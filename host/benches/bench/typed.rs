@@ -173,8 +173,12 @@ fn made_of_two<W: Wide, const WIDE: bool, const SUBTRACT: bool, const TOP: bool>
     }
 }
 
-/// ptrue with this many lanes, and with none pfalse: eight bits at a time, whole bytes of them alike.
-fn made(register: &mut [u8], size: u32, lanes: usize) {
+/// ptrue with this many lanes, and with none pfalse: eight bits at a time, whole bytes of them alike. The entry keeps
+/// what stood there, and zeros after it.
+fn made(register: &mut [u8], entry: &mut [u8], size: u32, lanes: usize) {
+    let (old, padding) = entry.split_at_mut(register.len());
+    old.copy_from_slice(register);
+    padding.fill(0);
     let bits = lanes << size;
     let every = [0xFF, 0x55, 0x11, 0x01][size as usize];
     let (whole, rest) = register.split_at_mut(bits / 8);
@@ -300,17 +304,13 @@ pub fn step(
     let field = |low: u32, most: u32| (word >> low & most) as usize;
     let (d, n, m, g) = (field(0, 31), field(5, 31), field(16, 31), field(10, 7));
     if makes_predicate {
-        let register = &mut p[2 * k * d..][..2 * k];
-        let (old, padding) = entry[1..].split_at_mut(2 * k);
-        old.copy_from_slice(register);
-        padding.fill(0);
-        entry[0] = 32 + d as u8;
         header[6..].copy_from_slice(&(count as u16 + 1).to_le_bytes());
         let lanes = match form {
             Form::Made => pattern_lanes(n, bytes >> size),
             _ => 0,
         };
-        made(register, size, lanes);
+        entry[0] = 32 + d as u8;
+        made(&mut p[2 * k * d..][..2 * k], &mut entry[1..], size, lanes);
         return Ok(());
     }
     let (low, rest) = z.split_at_mut(d * bytes);
