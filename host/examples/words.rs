@@ -29,19 +29,22 @@ fn main() -> Result<(), Refusal> {
     assert_eq!(decode(0x4500_0000, Facts::ALL), Err(Refusal::Undefined));
     assert_eq!(text(word, facts, &mut [0; 31]), Err(Refusal::Out));
 
-    // A word that makes a predicate: its pattern is always written, by the name if it has one.
-    let made = assemble("ptrue p3.h, vl16", facts)?;
-    let fields = decode(made, facts)?;
-    println!("{:08x}: {:?}", made, fields);
-    assert_eq!((fields.d, fields.pattern), (Predicate::P3.into(), Some(Pattern::Vl16)));
-    assert_eq!((fields.n, fields.g), (None, None));
-    assert_eq!(assemble("ptrue p3.h, #9", facts), Err(NotAssembled::NoWord));
-    assert_eq!(assemble("ptrue p3.h", facts), Err(NotAssembled::NoWord));
-
     // A long sum: accepted on a core with SVE2, undefined on this one.
     let sum = 0x4541_0023;
     println!("{:08x}: {:?}, {:?}", sum, text_of(sum, Facts::SVE2), text_of(sum, facts));
     assert_eq!(text_of(sum, Facts::SVE2)?, "saddlb z3.h, z1.b, z1.b");
     assert_eq!(text_of(sum, facts), Err(Refusal::Undefined));
+    read_a_pattern(facts)
+}
+
+/// A word that makes a predicate: its pattern is always written, by the name if it has one.
+fn read_a_pattern(facts: Facts) -> Result<(), Refusal> {
+    let word = assemble("ptrue p3.h, vl16", facts)?;
+    let fields = decode(word, facts)?;
+    println!("{:08x}: {:?}", word, fields);
+    assert_eq!((fields.d, fields.pattern), (Predicate::P3.into(), Some(Pattern::Vl16)));
+    assert_eq!((fields.n, fields.g), (None, None));
+    assert_eq!(assemble("ptrue p3.h, #9", facts), Err(NotAssembled::NoWord));
+    assert_eq!(assemble("ptrue p3.h", facts), Err(NotAssembled::NoWord));
     Ok(())
 }

@@ -245,21 +245,12 @@ pub fn step(
     };
     let fields = word.and_then(|word| reference::decode(word, facts).ok());
     let answer = reference::step(k, facts, z, p, program, journal);
-    match answer {
-        Err(Refusal::Undefined) if slips("a full journal tested before the facts") => {
-            let (mut z, mut p, mut journal) = (z.to_vec(), p.to_vec(), journal.to_vec());
-            reference::step(k, Facts::ALL, &mut z, &mut p, program, &mut journal)
-                .or_else(|refusal| if refusal == Refusal::Full { Err(refusal) } else { Ok(()) })?;
-        }
-        Err(Refusal::Full) if slips("a full journal's step changes its count") => journal[7] ^= 1,
-        Err(Refusal::Journal) if slips("end tested before the journal") && program.is_empty() => {
-            return Err(Refusal::End);
-        }
-        _ => {}
+    let mut lent = Lent { k, z, p, journal };
+    if let Err(refusal) = answer {
+        another_refusal(&mut lent, refusal, program)?;
     }
     match fields {
         Some(fields) if TABLE[fields.row].writes_predicate() => {
-            let mut lent = Lent { k, z, p, journal };
             let again = |z: &mut [u8], p: &mut [u8], journal: &mut [u8]| {
                 reference::step(k, facts, z, p, program, journal)
             };
@@ -268,11 +259,31 @@ pub fn step(
             Ok(())
         }
         Some(fields) if answer.is_ok() => {
-            slip(k, z, p, before, fields);
-            version_slip(journal);
+            slip(k, lent.z, lent.p, before, fields);
+            version_slip(lent.journal);
             answer
         }
         _ => answer,
+    }
+}
+
+/// What a slip makes of a refusal of a step: another one, or none and a byte changed.
+fn another_refusal(lent: &mut Lent<'_>, of: Refusal, program: &[u8]) -> Result<(), Refusal> {
+    let Lent { k, z, p, journal } = lent;
+    match of {
+        Refusal::Undefined if slips("a full journal tested before the facts") => {
+            let (mut z, mut p, mut journal) = (z.to_vec(), p.to_vec(), journal.to_vec());
+            reference::step(*k, Facts::ALL, &mut z, &mut p, program, &mut journal)
+                .or_else(|refusal| if refusal == Refusal::Full { Err(refusal) } else { Ok(()) })
+        }
+        Refusal::Full if slips("a full journal's step changes its count") => {
+            journal[7] ^= 1;
+            Ok(())
+        }
+        Refusal::Journal if slips("end tested before the journal") && program.is_empty() => {
+            Err(Refusal::End)
+        }
+        _ => Ok(()),
     }
 }
 
