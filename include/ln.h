@@ -1,6 +1,6 @@
 /* The engine of a vector-code viewer, for C and C++: decode, name, assemble, execute and un-execute
- * twenty-three of Arm's A64 adding and subtracting instructions. A whole program, which steps one word and
- * prints "the call is done: 1000":
+ * twenty-three of Arm's A64 adding and subtracting instructions, and two that make a predicate. A whole
+ * program, which steps one word and prints "the call is done: 1000":
  *
  *     #include "ln.h"
  *     #include <stdio.h>
@@ -10,14 +10,15 @@
  *         const uint8_t program[] = {0x20, 0x20, 0x40, 0x04}; // the word 04402020: saddv d0, p0, z1.h
  *         ln_put_lane(1, z, sizeof z, 1, 1, 7, 1000);         // 1000 into lane 7 of Z1, of two bytes
  *         ln_put_active(1, p, sizeof p, 0, 1, 7, 1);          // P0 makes it active, and no other lane
- *         ln_fresh(1, journal, sizeof journal);
+ *         ln_fresh(1, LN_JOURNAL_VERSION, journal, sizeof journal);
  *         uint64_t number =
  *             ln_step(1, LN_SVE, z, sizeof z, p, sizeof p, program, 4, journal, sizeof journal);
  *         struct ln_lane sum = ln_read_lane(1, z, sizeof z, p, sizeof p, 0, 0, 3, 1, 0); // d0
  *         printf("%s: %lu\n", ln_refusal_text(number), (unsigned long)sum.value);
  *     }
  *
- * host/examples/pane.c is a longer one: sixteen channels are drawn, stepped and taken back.
+ * host/examples/pane.c is a longer one: sixteen channels are drawn, stepped and taken back. In
+ * host/examples/kernel.c a kernel makes its own predicates.
  *
  * Link with libln.a, which is code for x86-64 Linux: from the repository's folder
  *
@@ -31,7 +32,8 @@
  * Calls. No value has to be checked before a call: every call ends for every k, number, facts, length
  * and content of the lent bytes, with LN_DONE or with a refusal. A refusal gives zero in place of every
  * value (but struct ln_word keeps its place) and changes no lent byte. Refusals are tested in the order
- * of their numbers, except that LN_OUT is tested before LN_UNKNOWN.
+ * of their numbers, except that LN_OUT is tested before LN_UNKNOWN, and that ln_step tests for LN_JOURNAL
+ * once more before LN_FULL: a word that writes a predicate has no entry in a journal of the former version.
  *
  * What no call can test, and its caller owes: bytes are lent as a pointer and a length, and the
  * pointer reaches as many bytes as the length says (that of an empty part may be anything); bytes that
@@ -43,23 +45,24 @@
  * is refused, those between too: Arm's manual has powers of two alone, so a layout at k = 3, 384 bits,
  * would fit no chip. The vector file is Z0 to Z31 one after the other, 16k bytes each; the predicate file
  * is P0 to P15, 2k bytes each. V<n> is the low 16 bytes of Z<n>, and a word that writes V<n> sets the
- * higher bytes of Z<n> to zero. P0 to P7 can govern.
+ * higher bytes of Z<n> to zero. P0 to P7 can govern; ptrue and pfalse can write each of the sixteen.
  *
  * Lanes. A size is 0, 1, 2 or 3 for lanes of 1, 2, 4 or 8 bytes; their letters are b, h, s and d. With
  * w bytes to a lane, lane e is the bytes e*w up to e*w + w - 1 of its register, the lowest byte first;
  * lane 0 is the least significant. Lane e is active exactly when bit e*w of the predicate is set: bit
  * (e*w) % 8 of its byte (e*w) / 8, bit 0 being the lowest. The other bits of a predicate do not matter:
- * at size 1 the first byte 05 makes lanes 0 and 1 active, and 03 lane 0 alone.
+ * at size 1 the first byte 05 makes lanes 0 and 1 active, and 03 lane 0 alone. A word that makes a predicate
+ * sets the one bit of each lane that its pattern makes active, and clears every other: enum ln_pattern.
  *
  * A program is 0 to 256 words of four bytes, the lowest byte first: 04002020 is the bytes 20 20 00 04.
  *
  * Facts. Which words a core has is told by five facts about it, the bits of a byte: enum ln_fact. None
  * implies another: a core with SVE2 has LN_SVE | LN_SVE2, and one with SME alone LN_SME. The rows need
  *
- *     saddv, uaddv      LN_SVE or LN_SME
- *     addqv             LN_SVE2P1 or LN_SME2P1
- *     saddlv, uaddlv    nothing
- *     all others        LN_SVE2 or LN_SME
+ *     saddv, uaddv, ptrue, pfalse    LN_SVE or LN_SME
+ *     addqv                          LN_SVE2P1 or LN_SME2P1
+ *     saddlv, uaddlv                 nothing
+ *     all others                     LN_SVE2 or LN_SME
  *
  * A word whose row needs what the facts lack is LN_UNDEFINED, as one whose size is not allowed. Facts
  * never make a word LN_UNKNOWN, and what an accepted word does and how it reads does not depend on them.
@@ -78,16 +81,27 @@
  * A journal is what steps back need. The caller lends it and ln_fresh writes it first:
  *
  *     byte 0   'L' 'N' 'J'
- *     byte 3   version, 16 bits, the lower byte first: LN_JOURNAL_VERSION
+ *     byte 3   version, 16 bits, the lower byte first: LN_JOURNAL_VERSION or LN_FORMER_JOURNAL_VERSION
  *     byte 5   k
  *     byte 6   count, 16 bits, the lower byte first
  *     byte 8   entries of 1 + 16k bytes, the oldest first: a step's destination number, its old bytes
+ *
+ * The numbers of an entry are 0 to 31 for Z0 to Z31, with 16k old bytes, and in version 2 also 32 to 47 for P0
+ * to P15, with 2k old bytes first and zeros after them up to 16k. What a step back restores goes by the
+ * number; the bytes after a predicate's old ones are not looked at. Version 1 has no entries of predicates,
+ * and there a step that would write one is LN_JOURNAL.
+ *
+ * ln_fresh is told the version, 1 or 2, and every other call reads it in the journal. A school's older viewer,
+ * linked with a library before version 8, reads version 1 alone: write that for a journal that it is to read,
+ * and LN_JOURNAL_VERSION for all others. A journal keeps its version; steps of words that write no predicate
+ * leave the same bytes in both, but for the version itself.
  *
  * The position is the journal's count: how many steps were made and not taken back, and so the number
  * of the word, from 0, that the next step executes. A journal of n bytes has room for
  * (n - 8) / (1 + 16k) entries, 256 at most; the largest, of 65,536 bytes, holds 256, but 254 at k = 16.
  * It is well formed if mark, version and k are right, the count is at most 256 and at most its room,
- * and each counted entry's number is at most 31. Bytes past the counted entries are not looked at.
+ * and each counted entry's number is at most 47, or 31 in version 1. Bytes past the counted entries are not
+ * looked at.
  *
  * A session is files and a program to start from, the facts of the core, and nothing more:
  *
@@ -132,10 +146,12 @@ extern "C" {
 
 /* The version of this header. It grows with every change that a program can notice; ln_version tells that of
  * the library which the program was linked with. */
-#define LN_VERSION 7
+#define LN_VERSION 8
 
-/* The versions of the stored forms; of a session the newest, and the former, which is read too. */
-#define LN_JOURNAL_VERSION 1
+/* The versions of the stored forms: of a journal the newest and the former, both read and written; of a session
+ * the newest, and the former, which is read too. */
+#define LN_JOURNAL_VERSION 2
+#define LN_FORMER_JOURNAL_VERSION 1
 #define LN_SESSION_VERSION 2
 #define LN_FORMER_SESSION_VERSION 1
 
@@ -146,7 +162,8 @@ enum ln_number {
     LN_FILE = 2,      /* vector file not 512k bytes, or predicate file not 32k */
     LN_PROGRAM = 3,   /* program not whole words, or over 256 words */
     LN_ROOM = 4,      /* journal under 8 or over 65,536 bytes */
-    LN_JOURNAL = 5,   /* journal not well formed */
+    LN_JOURNAL = 5,   /* journal not well formed, or of a version that has no entry for the step; or ln_fresh was
+                         told a version that there is not */
     LN_END = 6,       /* the place is not below the number of words */
     LN_UNKNOWN = 7,   /* no row of the table matches the word */
     LN_UNDEFINED = 8, /* a row matches; its size is not allowed, or the facts lack what it needs: which of
@@ -161,7 +178,7 @@ enum ln_number {
 
 /* The rows of the table of words, in its order; s is signed, u unsigned. Later versions may have more.
  *
- * From LN_SADDLB on a word has no predicate and sizes 1 to 3, and each lane e of Z<d> is two numbers
+ * From LN_SADDLB to LN_USUBWT a word has no predicate and sizes 1 to 3, and each lane e of Z<d> is two numbers
  * added (add) or the first less the second (sub), modulo 2^width. The second is a half-width lane of
  * Z<m>, extended: lane 2e (b, bottom) or 2e + 1 (t, top). The first is in a long row (l) the half-width
  * lane of Z<n> with that number, extended, and in a wide row (w) lane e of Z<n> at the full width. */
@@ -188,17 +205,44 @@ enum ln_row {
     LN_SSUBWB = 19, /* wide difference: lanes e of Z<n> less half-width lanes 2e of Z<m> */
     LN_SSUBWT = 20, /* the same with lanes 2e + 1 */
     LN_USUBWB = 21,
-    LN_USUBWT = 22
+    LN_USUBWT = 22,
+    LN_PTRUE = 23, /* the bit of each lane of P<d> that the pattern makes active, and no other bit; 0 to 3 */
+    LN_PFALSE = 24 /* P<d> without a bit; size 0 */
 };
 
 /* How many rows there are. */
-#define LN_ROWS 23
+#define LN_ROWS 25
+
+/* The patterns of ptrue, bits 9:5 of its word: how many lanes are active, lane 0 being the first. A fixed number
+ * above the number of lanes makes none active, and so do the numbers from 14 to 28, which have no name. */
+enum ln_pattern {
+    LN_POW2 = 0, /* the largest power of two that is not above the number of lanes */
+    LN_VL1 = 1,  /* one lane, and so on */
+    LN_VL2 = 2,
+    LN_VL3 = 3,
+    LN_VL4 = 4,
+    LN_VL5 = 5,
+    LN_VL6 = 6,
+    LN_VL7 = 7,
+    LN_VL8 = 8,
+    LN_VL16 = 9, /* sixteen lanes, and so on */
+    LN_VL32 = 10,
+    LN_VL64 = 11,
+    LN_VL128 = 12,
+    LN_VL256 = 13,
+    LN_MUL4 = 29, /* the largest multiple of four that is not above the number of lanes */
+    LN_MUL3 = 30, /* the largest multiple of three */
+    LN_ALL = 31   /* every lane */
+};
+
+/* How many patterns there are. */
+#define LN_PATTERNS 32
 
 /* The facts about a core, to be joined by |. A row that names two needs one of them; rows LN_SADDLV and
  * LN_UADDLV need none. None implies another: LN_SVE2 without LN_SVE does not give a core saddv. */
 enum ln_fact {
-    LN_SVE = 1,    /* or LN_SME: rows LN_SADDV and LN_UADDV */
-    LN_SVE2 = 2,   /* or LN_SME: the rows from LN_SADALP on */
+    LN_SVE = 1,    /* or LN_SME: rows LN_SADDV, LN_UADDV, LN_PTRUE and LN_PFALSE */
+    LN_SVE2 = 2,   /* or LN_SME: the rows from LN_SADALP to LN_USUBWT */
     LN_SVE2P1 = 4, /* or LN_SME2P1: row LN_ADDQV */
     LN_SME = 8,
     LN_SME2P1 = 16
@@ -258,7 +302,7 @@ static inline size_t ln_size_of(uint64_t bytes)
 
 /* The most bytes of stack that ln_step takes below its caller, with its return address and all that it
  * calls. It is measured, on the library's own code, and not proved. */
-#define LN_STEP_STACK 320
+#define LN_STEP_STACK 384
 
 /* The name of an answer number, as the enumeration has it: "DONE", "LENGTH" and so on. */
 static inline const char *ln_refusal_name(uint64_t number)
@@ -308,7 +352,7 @@ static inline const char *ln_refusal_text(uint64_t number)
         "the vector file has not 512k bytes, or the predicate file not 32k",
         "the program is not whole words, or has over 256 of them",
         "the journal has under 8 or over 65,536 bytes",
-        "the journal is not well formed",
+        "the journal is not well formed, or its version has no place for this",
         "the program has no word at this place",
         "no row of the table matches the word",
         "a row matches the word, but the size is not allowed or the facts lack what the row needs",
@@ -329,10 +373,24 @@ static inline const char *ln_row_name(uint64_t row)
     static const char *const names[] = {
         "saddv",  "uaddv",  "addqv",  "saddlv", "uaddlv", "sadalp", "uadalp", "saddlb",
         "saddlt", "uaddlb", "uaddlt", "ssublb", "ssublt", "usublb", "usublt", "saddwb",
-        "saddwt", "uaddwb", "uaddwt", "ssubwb", "ssubwt", "usubwb", "usubwt",
+        "saddwt", "uaddwb", "uaddwt", "ssubwb", "ssubwt", "usubwb", "usubwt", "ptrue",
+        "pfalse",
     };
 
     return row < LN_ROWS ? names[row] : "no row";
+}
+
+/* A pattern as the text of a ptrue has it: "vl16", or "#14" where it has no name; "no pattern" past the last. */
+static inline const char *ln_pattern_name(uint64_t pattern)
+{
+    static const char *const names[] = {
+        "pow2", "vl1",  "vl2",  "vl3",  "vl4",   "vl5",   "vl6",  "vl7",
+        "vl8",  "vl16", "vl32", "vl64", "vl128", "vl256", "#14",  "#15",
+        "#16",  "#17",  "#18",  "#19",  "#20",   "#21",   "#22",  "#23",
+        "#24",  "#25",  "#26",  "#27",  "#28",   "mul4",  "mul3", "all",
+    };
+
+    return pattern < LN_PATTERNS ? names[pattern] : "no pattern";
 }
 
 /* A number and, if it is LN_DONE, a value. */
@@ -341,9 +399,10 @@ struct ln_answer {
     uint64_t value;
 };
 
-/* The row (enum ln_row) and the fields of a word: size (bits 23:22), source n (9:5), destination d (4:0),
- * governing predicate g (12:10), second source m (20:16), q (30). A field that the row does not have
- * is 0. */
+/* The row (enum ln_row) and the fields of a word: size (bits 23:22), source n (9:5), destination d (4:0, and
+ * 3:0 where it is a predicate register), governing predicate g (12:10), second source m (20:16), q (30),
+ * pattern (9:5). A field that the row does not have is 0; ln_read_row tells which it has, and whether d is a
+ * predicate register. */
 struct ln_fields {
     uint64_t number;
     uint64_t row;
@@ -353,6 +412,7 @@ struct ln_fields {
     uint64_t g;
     uint64_t m;
     uint64_t q;
+    uint64_t pattern;
 };
 
 /* Where a register's bytes stand: in the predicate file if predicate is 1, else in the vector file. */
@@ -381,8 +441,9 @@ struct ln_lane {
     uint64_t bit;
 };
 
-/* An entry of a journal: the number of the register that its step wrote, 0 to 31 for Z0 to Z31; where in the
- * journal the bytes stand that the register held before, and how many they are. */
+/* An entry of a journal: the number of the register that its step wrote, 0 to 31 for Z0 to Z31 and 32 to 47 for
+ * P0 to P15; where in the journal the bytes stand that the register held before, and how many they are: 16k,
+ * or 2k of a predicate register, the zeros after them left out. */
 struct ln_entry {
     uint64_t number;
     uint64_t target;
@@ -390,12 +451,19 @@ struct ln_entry {
     uint64_t bytes;
 };
 
+/* Which register an entry's target is, for ln_register_place: 1 for a predicate register, else 0; and its number
+ * among the registers of its kind. */
+#define LN_IS_PREDICATE(target) ((target) >= LN_VECTOR_REGISTERS)
+#define LN_REGISTER_OF(target) ((target) - (LN_IS_PREDICATE(target) ? LN_VECTOR_REGISTERS : 0))
+
 /* What the words of a row have in common. The five after the number are 1 or 0: whether lanes are read as
  * signed numbers; whether a word has a governing predicate g, a second source m and a q; and whether what
  * stood in the destination enters into the sum. `need` is a byte of facts of which one is enough, and 0
  * where the row needs none. Then, by the size of a word: the bytes of a lane of Z<n> that it reads, of a
- * lane of Z<m>, and of a lane of Z<d> that it writes. They are 0 where the row does not allow the size, and
- * for Z<m> where the row has no m. A size that a row allows with q = 1 alone counts as allowed. */
+ * lane of Z<m>, and of a lane of Z<d> that it writes, or of the lanes that a bit of P<d> governs. They are 0
+ * where the row does not allow the size, and for Z<n> and Z<m> where the row has no n or no m. A size that a row
+ * allows with q = 1 alone counts as allowed. The last three are 1 or 0: whether a word has a source n and a
+ * pattern, and whether its destination is P<d> and not Z<d>. */
 struct ln_row_about {
     uint64_t number;
     uint64_t is_signed;
@@ -407,6 +475,9 @@ struct ln_row_about {
     uint64_t n_bytes[LN_MOST_SIZE + 1];
     uint64_t m_bytes[LN_MOST_SIZE + 1];
     uint64_t d_bytes[LN_MOST_SIZE + 1];
+    uint64_t has_n;
+    uint64_t has_pattern;
+    uint64_t writes_predicate;
 };
 
 /* A session's k and number of words, where its three parts start, counted in bytes, and its facts:
@@ -437,7 +508,8 @@ struct ln_answer ln_text(uint32_t word, uint8_t facts, uint8_t *out, size_t out_
 /* The word that has this text, and nothing else: exactly as ln_text writes it. That is lower case, one
  * space after the name, a comma and one space between operands, decimal numbers without leading zeros,
  * no space, newline or zero before or after it. With T for the letter of the size, H for that of half
- * its width, R for that of twice its width, and A for 8b, 16b, 4h, 8h, 4s or 2d:
+ * its width, R for that of twice its width, A for 8b, 16b, 4h, 8h, 4s or 2d, and PATTERN for a name of
+ * ln_pattern_name, which is never left out:
  *
  *     saddv dD, pG, zN.T           uaddv alike
  *     addqv vD.A, pG, zN.T         A = 16b, 8h, 4s, 2d
@@ -445,25 +517,29 @@ struct ln_answer ln_text(uint32_t word, uint8_t facts, uint8_t *out, size_t out_
  *     sadalp zD.T, pG/m, zN.H      uadalp alike
  *     saddlb zD.T, zN.H, zM.H      the other long rows alike
  *     saddwb zD.T, zN.T, zM.H      the other wide rows alike
+ *     ptrue pD.T, PATTERN
+ *     pfalse pD.b
  *
  * LN_TEXT: no word has it that is accepted on a core with these facts. */
 struct ln_answer ln_assemble(const uint8_t *text, size_t text_len, uint8_t facts);
 
-/* Writes a fresh journal: the header with count 0, and zeros after it.
- * LN_LENGTH, LN_ROOM. */
-uint64_t ln_fresh(size_t k, uint8_t *journal, size_t journal_len);
+/* Writes a fresh journal of a version, LN_JOURNAL_VERSION or LN_FORMER_JOURNAL_VERSION: the header with that
+ * version and count 0, and zeros after it. What the bytes were does not matter.
+ * LN_LENGTH, LN_ROOM; LN_JOURNAL: `version` is any other number of 64 bits. */
+uint64_t ln_fresh(size_t k, uint64_t version, uint8_t *journal, size_t journal_len);
 
 /* Executes the word at the journal's position and appends the destination's old bytes to the journal:
- * the position is one more then. `z` is the vector file, `p` the predicate file. The facts should be
- * those of the journal's other steps.
- * LN_LENGTH, LN_FILE, LN_PROGRAM, LN_ROOM, LN_JOURNAL, LN_END, LN_UNKNOWN, LN_UNDEFINED, LN_FULL. */
-uint64_t ln_step(size_t k, uint8_t facts, uint8_t *z, size_t z_len, const uint8_t *p, size_t p_len,
+ * the position is one more then. `z` is the vector file, `p` the predicate file; a step writes one register
+ * of one of them. The facts should be those of the journal's other steps.
+ * LN_LENGTH, LN_FILE, LN_PROGRAM, LN_ROOM, LN_JOURNAL, LN_END, LN_UNKNOWN, LN_UNDEFINED; then LN_JOURNAL where
+ * the word writes a predicate register and the journal is of the former version; LN_FULL. */
+uint64_t ln_step(size_t k, uint8_t facts, uint8_t *z, size_t z_len, uint8_t *p, size_t p_len,
                  const uint8_t *program, size_t program_len, uint8_t *journal, size_t journal_len);
 
-/* Takes the last step back: restores the last entry's bytes, sets that entry to zeros and lowers the
- * count: the position is one less then. It needs no facts.
+/* Takes the last step back: restores the last entry's bytes to the vector or the predicate register that it is
+ * of, sets that entry to zeros and lowers the count: the position is one less then. It needs no facts.
  * LN_LENGTH, LN_FILE, LN_ROOM, LN_JOURNAL, LN_EMPTY. */
-uint64_t ln_back(size_t k, uint8_t *z, size_t z_len, const uint8_t *p, size_t p_len,
+uint64_t ln_back(size_t k, uint8_t *z, size_t z_len, uint8_t *p, size_t p_len,
                  uint8_t *journal, size_t journal_len);
 
 /* The journal's position: 0 after ln_fresh, one more after a step that was done, one less after such a
@@ -490,8 +566,9 @@ struct ln_place ln_register_place(size_t k, const uint8_t *z, size_t z_len, cons
  * sadalp and uadalp read lanes of half the width, and their predicate governs the lanes of the destination:
  * ask for `active` with the word's own size and the destination's lane e, which holds for the source's lanes
  * 2e and 2e + 1 together. With the source's half width other bits would be asked, which do not matter.
- * saddlv, uaddlv and the rows from LN_SADDLB on have no predicate: every lane that they read counts, and
- * `active` says nothing of it.
+ * saddlv, uaddlv and the rows from LN_SADDLB to LN_USUBWT have no predicate: every lane that they read counts,
+ * and `active` says nothing of it. ptrue and pfalse read no lane; to draw what they made, ask for `active` with
+ * their destination as `predicate`, at the size of the lanes that it is to govern.
  * LN_LENGTH, LN_FILE; LN_RANGE: `source` over 31, `predicate` over 15, `size` over 3, or `lane` not below the
  * number of lanes. */
 struct ln_lane ln_read_lane(size_t k, const uint8_t *z, size_t z_len, const uint8_t *p, size_t p_len,
@@ -526,7 +603,7 @@ struct ln_word ln_read_word(const uint8_t *program, size_t program_len, size_t a
  * set. */
 struct ln_session ln_read_session(const uint8_t *bytes, size_t bytes_len);
 
-/* Writes the line of the step at `position`, which answered `number` and left this vector file, at the
+/* Writes the line of the step at `position`, which answered `number` and left these files, at the
  * front of `out`; the value is its length, at most LN_LONGEST_LINE, and bytes past it stay. The line has
  * the position and the number, whichever of 64 bits it is, in decimal, then after LN_DONE the word's
  * text and its destination register in hex, highest byte first, and after every other number the word in

@@ -19,7 +19,7 @@ fn main() -> Result<(), Refusal> {
 
     // What the next step is.
     let next = machine.fields(machine.position())?;
-    assert_eq!((next.row, next.g, next.n), (Row::Saddv, Some(Predicate::P0), Vector::Z1));
+    assert_eq!((next.row, next.g, next.n), (Row::Saddv, Some(Predicate::P0), Some(Vector::Z1)));
 
     // Forward to the end: a line for each step.
     print!("{}", machine.walk());

@@ -1,6 +1,6 @@
 use ghishmadul::{
     assemble, back, fresh, journal_bytes, position, predicate_file_bytes, read_entry, step,
-    vector_file_bytes, Facts, Refusal, Vector,
+    vector_file_bytes, Facts, JournalVersion, Refusal, Vector,
 };
 
 fn main() -> Result<(), Refusal> {
@@ -17,16 +17,16 @@ fn main() -> Result<(), Refusal> {
         program.extend(assemble(line, facts)?.to_le_bytes());
     }
 
-    // A journal with room for two entries.
+    // A journal with room for two entries. A school's older viewer would read one of the former version alone.
     let mut journal = vec![0; journal_bytes(k, 2)];
-    fresh(k, &mut journal)?;
+    fresh(k, JournalVersion::Current, &mut journal)?;
 
     // Forward: Z1 is overwritten by the sum of its own active lanes.
-    step(k, facts, &mut z, &p, &program, &mut journal)?;
+    step(k, facts, &mut z, &mut p, &program, &mut journal)?;
     println!("after a step Z1 begins {:?}", &z[32..36]);
     assert_eq!(z[32], 31);
-    step(k, facts, &mut z, &p, &program, &mut journal)?;
-    assert_eq!(step(k, facts, &mut z, &p, &program, &mut journal), Err(Refusal::End));
+    step(k, facts, &mut z, &mut p, &program, &mut journal)?;
+    assert_eq!(step(k, facts, &mut z, &mut p, &program, &mut journal), Err(Refusal::End));
     assert_eq!(position(k, &journal), Ok(2));
 
     // What the first step found in its destination: the ones that a step back restores.
@@ -36,11 +36,11 @@ fn main() -> Result<(), Refusal> {
     assert_eq!(read_entry(k, &journal, 2), Err(Refusal::Range));
 
     // Back: Z1 is what it was.
-    back(k, &mut z, &p, &mut journal)?;
-    back(k, &mut z, &p, &mut journal)?;
+    back(k, &mut z, &mut p, &mut journal)?;
+    back(k, &mut z, &mut p, &mut journal)?;
     println!("after two steps back Z1 begins {:?}", &z[32..36]);
     assert!(z[32..64].iter().all(|&byte| byte == 1));
-    assert_eq!(back(k, &mut z, &p, &mut journal), Err(Refusal::Empty));
+    assert_eq!(back(k, &mut z, &mut p, &mut journal), Err(Refusal::Empty));
     assert_eq!(position(k, &journal), Ok(0));
     Ok(())
 }

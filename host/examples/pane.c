@@ -3,8 +3,8 @@
 
 #include <stdio.h>
 
-#if LN_VERSION < 7
-#error "this example needs the calls of version 7"
+#if LN_VERSION < 8
+#error "this example needs the calls of version 8"
 #endif
 
 #define K 2
@@ -69,7 +69,8 @@ static void show_journal(void)
     printf("position: %d\n", (int)position.value);
     if (position.value > 0) {
         last = ln_read_entry(K, journal, sizeof journal, (size_t)position.value - 1);
-        printf("z%d held %02x %02x one step ago\n", (int)last.target, journal[last.start], journal[last.start + 1]);
+        printf("%c%d held %02x %02x one step ago\n", LN_IS_PREDICATE(last.target) ? 'p' : 'z',
+               (int)LN_REGISTER_OF(last.target), journal[last.start], journal[last.start + 1]);
     }
 }
 
@@ -165,7 +166,7 @@ int main(void)
         return 1;
     }
 
-    told("fresh", ln_fresh(K, journal, sizeof journal));
+    told("fresh", ln_fresh(K, LN_JOURNAL_VERSION, journal, sizeof journal));
     show_journal();
     show_channels();
     told("step on SVE2", step(LN_SVE | LN_SVE2, program));

@@ -1,5 +1,6 @@
 use ghishmadul::{
-    assemble, decode, text, text_of, Facts, NotAssembled, Predicate, Refusal, Row, Size, Vector,
+    assemble, decode, text, text_of, Facts, NotAssembled, Pattern, Predicate, Refusal, Row, Size,
+    Vector,
 };
 
 fn main() -> Result<(), Refusal> {
@@ -8,8 +9,8 @@ fn main() -> Result<(), Refusal> {
     let fields = decode(word, facts)?;
     println!("{:08x}: {:?}", word, fields);
     assert_eq!((fields.row, fields.size), (Row::Saddv, Size::B));
-    assert_eq!((fields.d, fields.g, fields.n), (Vector::Z0, Some(Predicate::P0), Vector::Z1));
-    assert_eq!((fields.m, fields.q), (None, None));
+    assert_eq!((fields.d, fields.n), (Vector::Z0.into(), Some(Vector::Z1)));
+    assert_eq!((fields.g, fields.m, fields.q), (Some(Predicate::P0), None, None));
 
     println!("{:08x}: {}", word, text_of(word, facts)?);
     assert_eq!(text_of(word, facts)?, "saddv d0, p0, z1.b");
@@ -33,5 +34,17 @@ fn main() -> Result<(), Refusal> {
     println!("{:08x}: {:?}, {:?}", sum, text_of(sum, Facts::SVE2), text_of(sum, facts));
     assert_eq!(text_of(sum, Facts::SVE2)?, "saddlb z3.h, z1.b, z1.b");
     assert_eq!(text_of(sum, facts), Err(Refusal::Undefined));
+    read_a_pattern(facts)
+}
+
+/// A word that makes a predicate: its pattern is always written, by the name if it has one.
+fn read_a_pattern(facts: Facts) -> Result<(), Refusal> {
+    let word = assemble("ptrue p3.h, vl16", facts)?;
+    let fields = decode(word, facts)?;
+    println!("{:08x}: {:?}", word, fields);
+    assert_eq!((fields.d, fields.pattern), (Predicate::P3.into(), Some(Pattern::Vl16)));
+    assert_eq!((fields.n, fields.g), (None, None));
+    assert_eq!(assemble("ptrue p3.h, #9", facts), Err(NotAssembled::NoWord));
+    assert_eq!(assemble("ptrue p3.h", facts), Err(NotAssembled::NoWord));
     Ok(())
 }

@@ -1,10 +1,32 @@
 //! What each word does.
 
 use crate::lanes::{active, extended, lane, set_lane, sum_of_active};
+use crate::patterns::pattern_lanes;
 use crate::words::{Fields, Form, TABLE};
 
 /// Executes an accepted word over files of the right sizes.
-pub fn execute(fields: &Fields, k: usize, z: &mut [u8], p: &[u8]) {
+pub fn execute(fields: &Fields, k: usize, z: &mut [u8], p: &mut [u8]) {
+    if TABLE[fields.row].writes_predicate() {
+        write_predicate(fields, k, &mut p[fields.d * 2 * k..][..2 * k]);
+    } else {
+        write_vector(fields, k, z, p);
+    }
+}
+
+/// The bit at e * width for each lane e that the pattern makes active, and no other.
+fn write_predicate(fields: &Fields, k: usize, register: &mut [u8]) {
+    let width = 1 << fields.size;
+    let active = match TABLE[fields.row].form {
+        Form::Made => pattern_lanes(fields.pattern, 16 * k / width),
+        _ => 0,
+    };
+    register.fill(0);
+    for bit in (0..active).map(|e| e * width) {
+        register[bit / 8] |= 1 << (bit % 8);
+    }
+}
+
+fn write_vector(fields: &Fields, k: usize, z: &mut [u8], p: &[u8]) {
     let bytes = 16 * k;
     let vector = |number: usize| &z[number * bytes..][..bytes];
     let (old, source, second) = (vector(fields.d), vector(fields.n), vector(fields.m));
@@ -59,6 +81,7 @@ pub fn execute(fields: &Fields, k: usize, z: &mut [u8], p: &[u8]) {
                 set_lane(&mut result, width, e, value);
             }
         }
+        Form::Made | Form::Cleared => unreachable!("a word that writes a vector"),
     }
     z[fields.d * bytes..][..bytes].copy_from_slice(&result[..bytes]);
 }

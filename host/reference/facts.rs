@@ -24,7 +24,7 @@ enum Need {
 
 /// The needs of the rows, in the table's order.
 #[rustfmt::skip]
-const NEEDS: [Need; 23] = [
+const NEEDS: [Need; 25] = [
     // saddv, uaddv, addqv
     SveOrSme, SveOrSme, Sve2p1OrSme2p1,
     // saddlv, uaddlv
@@ -39,6 +39,8 @@ const NEEDS: [Need; 23] = [
     Sve2OrSme, Sve2OrSme, Sve2OrSme, Sve2OrSme,
     // ssubwb, ssubwt, usubwb, usubwt
     Sve2OrSme, Sve2OrSme, Sve2OrSme, Sve2OrSme,
+    // ptrue, pfalse
+    SveOrSme, SveOrSme,
 ];
 
 /// Whether a core with these facts has the words of a row.

@@ -8,6 +8,7 @@ mod journal;
 mod lanes;
 mod names;
 mod pane;
+mod patterns;
 mod rows;
 mod session;
 mod words;
@@ -18,9 +19,10 @@ pub use names::{assemble, text};
 pub use pane::{
     panel, put_active, put_lane, read_lane, read_word, register_place, subtotal, Asked,
 };
+pub use patterns::{pattern_lanes, pattern_name};
 pub use rows::{read_row, About};
 pub use session::{line, read_session, walk, write_line, write_session};
 pub use words::{decode, Fields, Row, TABLE};
 
 /// The version of the calls.
-pub const VERSION: u64 = 7;
+pub const VERSION: u64 = 8;

@@ -2,6 +2,7 @@
 
 use crate::decode;
 use crate::facts::suffice;
+use crate::patterns::{pattern_name, pattern_of};
 use crate::words::{Form, TABLE};
 use ghishmadul::{Facts, Refusal};
 use std::io::Write;
@@ -36,6 +37,8 @@ pub fn text(word: u32, facts: Facts, out: &mut [u8]) -> Result<usize, Refusal> {
             let first = if wide { letter } else { half };
             write!(rest, "{} z{}.{}, z{}.{}, z{}.{}", name, d, letter, n, first, m, half)
         }
+        Form::Made => write!(rest, "{} p{}.{}, {}", name, d, letter, pattern_name(fields.pattern)),
+        Form::Cleared => write!(rest, "{} p{}.{}", name, d, letter),
     };
     written.expect("a text has at most 26 bytes");
     Ok(room - rest.len())
@@ -57,13 +60,13 @@ fn parse(text: &str, facts: Facts) -> Option<u32> {
         Form::Across { .. } => {
             let d = register(next()?, 'd', 31)?;
             let g = register(next()?, 'p', 7)?;
-            let (n, size) = lanes(next()?)?;
+            let (n, size) = lanes(next()?, 'z', 31)?;
             (size, 0, g << 10 | n << 5 | d)
         }
         Form::Segments => {
             let (d, arrangement) = arranged(next()?)?;
             let g = register(next()?, 'p', 7)?;
-            let (n, size) = lanes(next()?)?;
+            let (n, size) = lanes(next()?, 'z', 31)?;
             if arrangement != ["16b", "8h", "4s", "2d"][size] {
                 return None;
             }
@@ -84,22 +87,30 @@ fn parse(text: &str, facts: Facts) -> Option<u32> {
             (size, q, n << 5 | d)
         }
         Form::Pairs { .. } => {
-            let (d, size) = lanes(next()?)?;
+            let (d, size) = lanes(next()?, 'z', 31)?;
             let g = register(next()?.strip_suffix("/m")?, 'p', 7)?;
-            let (n, half) = lanes(next()?)?;
+            let (n, half) = lanes(next()?, 'z', 31)?;
             if half + 1 != size {
                 return None;
             }
             (size, 0, g << 10 | n << 5 | d)
         }
         Form::Widening { wide, .. } => {
-            let (d, size) = lanes(next()?)?;
-            let (n, first) = lanes(next()?)?;
-            let (m, half) = lanes(next()?)?;
+            let (d, size) = lanes(next()?, 'z', 31)?;
+            let (n, first) = lanes(next()?, 'z', 31)?;
+            let (m, half) = lanes(next()?, 'z', 31)?;
             if half + 1 != size || first != if wide { size } else { half } {
                 return None;
             }
             (size, 0, m << 16 | n << 5 | d)
+        }
+        Form::Made => {
+            let (d, size) = lanes(next()?, 'p', 15)?;
+            (size, 0, (pattern_of(next()?)? as u32) << 5 | d)
+        }
+        Form::Cleared => {
+            let (d, size) = lanes(next()?, 'p', 15)?;
+            (size, 0, d)
         }
     };
     if next().is_some() || !row.allows(size, q) || !suffice(facts, number) {
@@ -122,8 +133,8 @@ fn register(operand: &str, letter: char, most: u32) -> Option<u32> {
     }
 }
 
-/// A vector register with its lanes, `zN.T`: the number and the size.
-fn lanes(operand: &str) -> Option<(u32, usize)> {
+/// A register with its lanes, `zN.T` or `pN.T`: the number, which is at most this one, and the size.
+fn lanes(operand: &str, kind: char, most: u32) -> Option<(u32, usize)> {
     let (name, letter) = operand.split_once('.')?;
     let size = match letter {
         "b" => 0,
@@ -132,7 +143,7 @@ fn lanes(operand: &str) -> Option<(u32, usize)> {
         "d" => 3,
         _ => return None,
     };
-    Some((register(name, 'z', 31)?, size))
+    Some((register(name, kind, most)?, size))
 }
 
 /// A vector register with its arrangement, `vN.A`.

@@ -17,6 +17,9 @@ pub struct About {
     pub n_bytes: [usize; 4],
     pub m_bytes: [usize; 4],
     pub d_bytes: [usize; 4],
+    pub has_n: bool,
+    pub has_pattern: bool,
+    pub writes_predicate: bool,
 }
 
 pub fn read_row(number: usize) -> Result<About, Refusal> {
@@ -31,6 +34,9 @@ pub fn read_row(number: usize) -> Result<About, Refusal> {
         n_bytes: [0; 4],
         m_bytes: [0; 4],
         d_bytes: [0; 4],
+        has_n: !row.writes_predicate(),
+        has_pattern: matches!(row.form, Form::Made),
+        writes_predicate: row.writes_predicate(),
     };
     for size in (0..4).filter(|&size| row.allows(size, 0) || row.allows(size, 1)) {
         let [n, m, d] = widths(row.form, 1 << size);
@@ -41,7 +47,8 @@ pub fn read_row(number: usize) -> Result<About, Refusal> {
     Ok(about)
 }
 
-/// The bytes of a lane of each source and of the destination; 0 for a second source that there is not.
+/// The bytes of a lane of each source and of the destination; 0 for a source that there is not. The lanes of a
+/// predicate that a word writes are those that one of its bits governs.
 fn widths(form: Form, width: usize) -> [usize; 3] {
     match form {
         Form::Across { .. } => [width, 0, 8],
@@ -50,5 +57,6 @@ fn widths(form: Form, width: usize) -> [usize; 3] {
         Form::Pairs { .. } => [width / 2, 0, width],
         Form::Widening { wide: false, .. } => [width / 2, width / 2, width],
         Form::Widening { wide: true, .. } => [width, width / 2, width],
+        Form::Made | Form::Cleared => [0, 0, width],
     }
 }

@@ -1,6 +1,6 @@
 //! The session that `walk` reads, a session written, and the lines that `walk` writes.
 
-use crate::{checks, decode, facts_of, fresh, read_word, step, text, ALL, HIGHER};
+use crate::{checks, decode, facts_of, fresh, read_word, step, text, ALL, HIGHER, TABLE};
 use ghishmadul::{Facts, Refusal, Session};
 use std::fmt::Write;
 
@@ -58,16 +58,16 @@ pub fn walk(input: &[u8]) -> String {
     };
     let (k, facts) = (session.k, session.facts);
     let mut z = input[session.vectors..session.predicates].to_vec();
-    let p = &input[session.predicates..session.program];
+    let mut p = input[session.predicates..session.program].to_vec();
     let program = &input[session.program..];
     let mut journal = vec![0; 65_536];
-    fresh(k, &mut journal).expect("a session has a length, and the journal its room");
+    fresh(k, 2, &mut journal).expect("a session has a length, and the journal its room");
 
     let mut output = String::new();
     for position in 0..session.count {
         let word = read_word(program, position).expect("the place is below the count").word;
-        let answer = step(k, facts, &mut z, p, program, &mut journal);
-        output += &line(k, facts, &z, word, position, answer);
+        let answer = step(k, facts, &mut z, &mut p, program, &mut journal);
+        output += &line(k, facts, &z, &p, word, position, answer);
         if answer.is_err() {
             break;
         }
@@ -80,6 +80,7 @@ pub fn line(
     k: usize,
     facts: Facts,
     z: &[u8],
+    p: &[u8],
     word: u32,
     position: usize,
     answer: Result<(), Refusal>,
@@ -92,7 +93,11 @@ pub fn line(
             let length = text(word, facts, &mut out).expect("an accepted word");
             let name = std::str::from_utf8(&out[..length]).expect("a text is ASCII");
             let mut line = format!("{} 0 {} ", position, name);
-            for byte in z[fields.d * 16 * k..][..16 * k].iter().rev() {
+            let register = match TABLE[fields.row].writes_predicate() {
+                true => &p[fields.d * 2 * k..][..2 * k],
+                false => &z[fields.d * 16 * k..][..16 * k],
+            };
+            for byte in register.iter().rev() {
                 write!(line, "{:02x}", byte).expect("a string takes what is written");
             }
             line + "\n"
@@ -120,7 +125,7 @@ pub fn write_line(
     if answer.is_ok() {
         decode(word, facts)?;
     }
-    let text = line(k, facts, z, word, position, answer);
+    let text = line(k, facts, z, p, word, position, answer);
     out[..text.len()].copy_from_slice(text.as_bytes());
     Ok(text.len())
 }

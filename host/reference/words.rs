@@ -1,4 +1,4 @@
-//! The twenty-three words.
+//! The twenty-five words.
 
 use crate::facts::suffice;
 use ghishmadul::{Facts, Refusal};
@@ -13,6 +13,7 @@ pub struct Fields {
     pub g: usize,
     pub m: usize,
     pub q: usize,
+    pub pattern: usize,
 }
 
 /// What the words of a row have in common.
@@ -30,6 +31,10 @@ pub enum Form {
     /// For lane e the second is the half-width lane 2e + `top` of the second source; the first is that
     /// lane of the first source, or with `wide` its lane e.
     Widening { signed: bool, top: usize, wide: bool, subtract: bool },
+    /// ptrue: a predicate of the lanes that a pattern tells
+    Made,
+    /// pfalse: a predicate without a bit
+    Cleared,
 }
 
 /// What stands in the table for a name: a word is of the row if its bits of the mask are the value.
@@ -57,7 +62,7 @@ const fn widening(name: &'static str, value: u32) -> Row {
     row(name, 0xFF20_FC00, value, form)
 }
 
-pub const TABLE: [Row; 23] = [
+pub const TABLE: [Row; 25] = [
     row("saddv", 0xFF3F_E000, 0x0400_2000, Form::Across { signed: true }),
     row("uaddv", 0xFF3F_E000, 0x0401_2000, Form::Across { signed: false }),
     row("addqv", 0xFF3F_E000, 0x0405_2000, Form::Segments),
@@ -81,6 +86,8 @@ pub const TABLE: [Row; 23] = [
     widening("ssubwt", 0x4500_5400),
     widening("usubwb", 0x4500_5800),
     widening("usubwt", 0x4500_5C00),
+    row("ptrue", 0xFF3F_FC10, 0x2518_E000, Form::Made),
+    row("pfalse", 0xFFFF_FFF0, 0x2518_E400, Form::Cleared),
 ];
 
 impl Row {
@@ -91,10 +98,16 @@ impl Row {
     pub(crate) fn allows(&self, size: usize, q: usize) -> bool {
         match self.form {
             Form::Across { signed: true } => size <= 2,
-            Form::Across { signed: false } | Form::Segments => size <= 3,
+            Form::Across { signed: false } | Form::Segments | Form::Made => size <= 3,
             Form::LongAcross { .. } => size <= 1 || (size == 2 && q == 1),
             Form::Pairs { .. } | Form::Widening { .. } => (1..=3).contains(&size),
+            Form::Cleared => size == 0,
         }
+    }
+
+    /// Whether the words of this row write a predicate register, and no vector.
+    pub fn writes_predicate(&self) -> bool {
+        matches!(self.form, Form::Made | Form::Cleared)
     }
 
     /// The word of this row whose fields are these.
@@ -110,10 +123,13 @@ pub fn decode(word: u32, facts: Facts) -> Result<Fields, Refusal> {
     if !TABLE[row].allows(size, q) || !suffice(facts, row) {
         return Err(Refusal::Undefined);
     }
-    let (g, m, q) = match TABLE[row].form {
-        Form::LongAcross { .. } => (0, 0, q),
-        Form::Widening { .. } => (0, field(16, 5), 0),
-        _ => (field(10, 3), 0, 0),
-    };
-    Ok(Fields { row, size, n: field(5, 5), d: field(0, 5), g, m, q })
+    let mut fields = Fields { row, size, n: 0, d: field(0, 5), g: 0, m: 0, q: 0, pattern: 0 };
+    match TABLE[row].form {
+        Form::LongAcross { .. } => (fields.n, fields.q) = (field(5, 5), q),
+        Form::Widening { .. } => (fields.n, fields.m) = (field(5, 5), field(16, 5)),
+        Form::Made => (fields.pattern, fields.d) = (field(5, 5), field(0, 4)),
+        Form::Cleared => fields.d = field(0, 4),
+        _ => (fields.n, fields.g) = (field(5, 5), field(10, 3)),
+    }
+    Ok(fields)
 }

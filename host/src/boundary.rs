@@ -26,7 +26,7 @@ pub struct Fields {
     pub size: u64,
     /// Bits 9:5, the source.
     pub n: u64,
-    /// Bits 4:0, the destination.
+    /// Bits 4:0, the destination; 3:0 where it is a predicate register.
     pub d: u64,
     /// Bits 12:10, the governing predicate.
     pub g: u64,
@@ -34,6 +34,8 @@ pub struct Fields {
     pub m: u64,
     /// Bit 30.
     pub q: u64,
+    /// Bits 9:5 of a word that has a pattern and no source.
+    pub pattern: u64,
 }
 
 /// Where a register's bytes stand, 0 with a refusal.
@@ -84,7 +86,7 @@ pub struct Lane {
 pub struct Entry {
     /// 0, or the refusal's number.
     pub number: u64,
-    /// The number of the register that the entry's step wrote.
+    /// The number of the register that the entry's step wrote: 0 to 31 for Z0 to Z31, 32 to 47 for P0 to P15.
     pub target: u64,
     /// The number of the first of its old bytes in the journal.
     pub start: u64,
@@ -110,12 +112,18 @@ pub struct About {
     pub reads_destination: u64,
     /// A byte of facts of which one is enough, 0 where none is needed.
     pub need: u64,
-    /// The bytes of a lane of the source, 0 where the size is not allowed.
+    /// The bytes of a lane of the source, 0 where the size is not allowed and where there is none.
     pub n_bytes: [u64; 4],
     /// The bytes of a lane of the second source, 0 where there is none too.
     pub m_bytes: [u64; 4],
-    /// The bytes of a lane of the destination.
+    /// The bytes of a lane of the destination; of a predicate register, of the lanes that its bits govern.
     pub d_bytes: [u64; 4],
+    /// 1 where a word has a source, else 0.
+    pub has_n: u64,
+    /// 1 where a word has a pattern.
+    pub has_pattern: u64,
+    /// 1 where the destination is a predicate register.
+    pub writes_predicate: u64,
 }
 
 /// A session's length and number of words, where its parts start, and its facts; 0 with a refusal.
@@ -152,8 +160,8 @@ extern "C" {
     /// The word that has this text.
     pub fn ln_assemble(text: *const u8, text_len: usize, facts: u8) -> Answer;
 
-    /// Writes a fresh journal.
-    pub fn ln_fresh(k: usize, journal: *mut u8, journal_len: usize) -> u64;
+    /// Writes a fresh journal of a version, 1 or 2.
+    pub fn ln_fresh(k: usize, version: u64, journal: *mut u8, journal_len: usize) -> u64;
 
     /// Executes the word at the journal's position.
     pub fn ln_step(
@@ -161,7 +169,7 @@ extern "C" {
         facts: u8,
         z: *mut u8,
         z_len: usize,
-        p: *const u8,
+        p: *mut u8,
         p_len: usize,
         program: *const u8,
         program_len: usize,
@@ -174,7 +182,7 @@ extern "C" {
         k: usize,
         z: *mut u8,
         z_len: usize,
-        p: *const u8,
+        p: *mut u8,
         p_len: usize,
         journal: *mut u8,
         journal_len: usize,

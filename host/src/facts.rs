@@ -13,7 +13,7 @@ const NONE: &str = "none";
 ///
 /// | rows | one of |
 /// |---|---|
-/// | saddv, uaddv | `sve`, `sme` |
+/// | saddv, uaddv, ptrue, pfalse | `sve`, `sme` |
 /// | addqv | `sve2p1`, `sme2p1` |
 /// | saddlv, uaddlv | nothing |
 /// | all others | `sve2`, `sme` |

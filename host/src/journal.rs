@@ -1,26 +1,75 @@
 //! Steps forward and back over slices, and what a journal holds.
 
 use crate::refusal::known;
-use crate::{boundary, Facts, Refusal, Register, Vector};
+use crate::{boundary, Facts, Refusal, Register};
 
-/// Writes a fresh journal. The example is [`step`]'s.
+/// The version of a journal: which registers its entries can be of. Every call but [`fresh`] reads it in the
+/// journal itself.
+///
+/// ```
+/// use ghishmadul::{JournalVersion, Refusal};
+///
+/// assert_eq!(JournalVersion::default(), JournalVersion::Current);
+/// assert_eq!(JournalVersion::try_from(1), Ok(JournalVersion::Former));
+/// assert_eq!(JournalVersion::try_from(3), Err(Refusal::Journal));
+/// assert_eq!(JournalVersion::Current.number(), 2);
+/// ```
+#[derive(Clone, Copy, Debug, Default, PartialEq, Eq, PartialOrd, Ord, Hash)]
+pub enum JournalVersion {
+    /// Version 1: entries of vectors alone. A library before version 8 reads and writes no other; in it a step
+    /// that writes a predicate register is [`Refusal::Journal`].
+    Former,
+    /// Version 2: entries of vectors and of predicates.
+    #[default]
+    Current,
+}
+
+impl JournalVersion {
+    /// Every version, the oldest first.
+    pub const ALL: [JournalVersion; 2] = [JournalVersion::Former, JournalVersion::Current];
+
+    /// The version's number, as a journal has it: 1 or 2.
+    pub const fn number(self) -> u64 {
+        match self {
+            JournalVersion::Former => 1,
+            JournalVersion::Current => 2,
+        }
+    }
+}
+
+impl TryFrom<u64> for JournalVersion {
+    type Error = Refusal;
+
+    /// # Errors
+    ///
+    /// [`Refusal::Journal`] where there is no version with this number.
+    fn try_from(number: u64) -> Result<JournalVersion, Refusal> {
+        let version = JournalVersion::ALL.into_iter().find(|version| version.number() == number);
+        version.ok_or(Refusal::Journal)
+    }
+}
+
+/// Writes a fresh journal of a version, whatever the bytes were. The example is [`step`]'s.
 ///
 /// # Errors
 ///
 /// [`Refusal::Length`], [`Refusal::Room`].
 #[inline]
-pub fn fresh(k: usize, journal: &mut [u8]) -> Result<(), Refusal> {
-    Refusal::check(unsafe { boundary::ln_fresh(k, journal.as_mut_ptr(), journal.len()) })
+pub fn fresh(k: usize, version: JournalVersion, journal: &mut [u8]) -> Result<(), Refusal> {
+    let version = version.number();
+    Refusal::check(unsafe { boundary::ln_fresh(k, version, journal.as_mut_ptr(), journal.len()) })
 }
 
-/// Executes the word at the journal's position, and appends the destination's old bytes to the journal.
+/// Executes the word at the journal's position, and appends the destination's old bytes to the journal. The
+/// destination is a vector register, or a predicate register for ptrue and pfalse.
 /// The facts should be those of the journal's other steps; a [`Machine`](crate::Machine) has one set of
 /// facts for all.
 ///
 /// # Errors
 ///
 /// [`Refusal::Length`], [`Refusal::File`], [`Refusal::Program`], [`Refusal::Room`], [`Refusal::Journal`],
-/// [`Refusal::End`], [`Refusal::Unknown`], [`Refusal::Undefined`], [`Refusal::Full`].
+/// [`Refusal::End`], [`Refusal::Unknown`], [`Refusal::Undefined`]; [`Refusal::Journal`] again where the word
+/// writes a predicate register and the journal is of the former version; [`Refusal::Full`].
 ///
 #[doc = concat!("# Examples\n\n```\n", include_str!("../examples/moves.rs"), "```")]
 #[inline]
@@ -28,7 +77,7 @@ pub fn step(
     k: usize,
     facts: Facts,
     z: &mut [u8],
-    p: &[u8],
+    p: &mut [u8],
     program: &[u8],
     journal: &mut [u8],
 ) -> Result<(), Refusal> {
@@ -38,7 +87,7 @@ pub fn step(
             facts.byte(),
             z.as_mut_ptr(),
             z.len(),
-            p.as_ptr(),
+            p.as_mut_ptr(),
             p.len(),
             program.as_ptr(),
             program.len(),
@@ -48,19 +97,20 @@ pub fn step(
     })
 }
 
-/// Takes the last step back. It needs no facts. The example is [`step`]'s.
+/// Takes the last step back: the register that it wrote, of either kind, is restored. It needs no facts. The
+/// example is [`step`]'s.
 ///
 /// # Errors
 ///
 /// [`Refusal::Length`], [`Refusal::File`], [`Refusal::Room`], [`Refusal::Journal`], [`Refusal::Empty`].
 #[inline]
-pub fn back(k: usize, z: &mut [u8], p: &[u8], journal: &mut [u8]) -> Result<(), Refusal> {
+pub fn back(k: usize, z: &mut [u8], p: &mut [u8], journal: &mut [u8]) -> Result<(), Refusal> {
     Refusal::check(unsafe {
         boundary::ln_back(
             k,
             z.as_mut_ptr(),
             z.len(),
-            p.as_ptr(),
+            p.as_mut_ptr(),
             p.len(),
             journal.as_mut_ptr(),
             journal.len(),
@@ -88,7 +138,8 @@ pub struct Entry<'a> {
     pub target: Register,
     /// Where in the journal its old bytes start.
     pub start: usize,
-    /// Its old bytes, the part of the journal that holds them.
+    /// Its old bytes, the part of the journal that holds them: as many as the register has. The zeros after a
+    /// predicate's are left out.
     pub old: &'a [u8],
 }
 
@@ -105,7 +156,7 @@ pub fn read_entry(k: usize, journal: &[u8], index: usize) -> Result<Entry<'_>, R
     Refusal::check(entry.number)?;
     let (start, bytes) = (entry.start as usize, entry.bytes as usize);
     Ok(Entry {
-        target: known(Vector::try_from(entry.target as usize)).into(),
+        target: known(Register::of_entry(entry.target as usize)),
         start,
         old: &journal[start..start + bytes],
     })

@@ -1,5 +1,6 @@
 //! Safe Rust over the proved engine of a vector-code viewer: it decodes, names, assembles, executes
-//! and un-executes twenty-three of Arm's A64 adding and subtracting instructions.
+//! and un-executes twenty-three of Arm's A64 adding and subtracting instructions, and two that make a
+//! predicate.
 //!
 //! A [`Machine`] owns the registers, a program and the journal that steps back need; most programs
 //! want that. The functions beside it are the engine's calls over slices of the caller's.
@@ -7,8 +8,9 @@
 #![doc = concat!("```\n", include_str!("../examples/first.rs"), "```")]
 //!
 //! Nothing has to be checked before a call: every call ends for every input, with its answer or with a
-//! [`Refusal`], and a refusal changes no byte that was lent. Rows, sizes and registers are types: [`Row`],
-//! [`Size`], [`Vector`], [`Predicate`].
+//! [`Refusal`], and a refusal changes no byte that was lent. Rows, sizes, registers,
+//! patterns and the versions of a journal are types: [`Row`], [`Size`], [`Vector`], [`Predicate`], [`Pattern`],
+//! [`JournalVersion`].
 //!
 //! A length `k` is one of [`LENGTHS`]: 1, 2, 4, 8 or 16. Every other is refused: Arm's manual has powers
 //! of two alone, so a layout at another length would fit no chip. The vector file `z` has `512 * k`
@@ -29,6 +31,7 @@ mod facts;
 mod journal;
 mod machine;
 mod pane;
+mod patterns;
 mod refusal;
 mod registers;
 mod rows;
@@ -36,12 +39,13 @@ mod session;
 mod words;
 
 pub use facts::{Facts, NoFact};
-pub use journal::{back, fresh, position, read_entry, step, Entry};
+pub use journal::{back, fresh, position, read_entry, step, Entry, JournalVersion};
 pub use machine::Machine;
 pub use pane::{
     lanes, panel, panel_rows, put_active, put_lane, read_lane, register, register_place, subtotal,
     Lane, Lanes, Place,
 };
+pub use patterns::Pattern;
 pub use refusal::Refusal;
 pub use registers::{Kind, Predicate, Register, Size, Vector};
 pub use rows::{About, Row, Widths};
@@ -49,7 +53,7 @@ pub use session::{read_session, read_word, write_line, write_session, Session, W
 pub use words::{assemble, decode, lacking, text, text_of, Fields, NotAssembled};
 
 /// The version of the library that this crate is for; [`version`] tells that of the one it was linked with.
-pub const VERSION: u64 = 7;
+pub const VERSION: u64 = 8;
 /// The least length.
 pub const LEAST_K: usize = 1;
 /// The most length.
@@ -82,7 +86,7 @@ pub const SESSION_HEADER_BYTES: usize = 9;
 pub const FORMER_SESSION_HEADER_BYTES: usize = 8;
 /// The most bytes of stack that the library's step takes below its caller: measured, not proved.
 /// What [`step`] itself adds is the compiler's.
-pub const STEP_STACK: usize = 320;
+pub const STEP_STACK: usize = 384;
 
 /// The bytes of a vector register; a predicate register has an eighth as many.
 ///

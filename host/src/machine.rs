@@ -5,12 +5,13 @@ use crate::{
     back, decode, fresh, lacking, lanes, panel_rows, position, predicate_file_bytes, put_active,
     put_lane, read_entry, read_lane, read_session, read_word, register, register_place,
     session_bytes, step, subtotal, text_of, vector_bytes, vector_file_bytes, write_line,
-    write_session, Entry, Facts, Fields, Kind, Lane, Lanes, Predicate, Refusal, Register, Size,
-    Vector, JOURNAL_HEADER_BYTES, LONGEST_LINE, MOST_JOURNAL_BYTES,
+    write_session, Entry, Facts, Fields, JournalVersion, Kind, Lane, Lanes, Predicate, Refusal,
+    Register, Size, Vector, JOURNAL_HEADER_BYTES, LONGEST_LINE, MOST_JOURNAL_BYTES,
 };
 use std::ops::Range;
 
-/// A machine with all that the calls are lent: both files, a program, and the journal of its steps.
+/// A machine with all that the calls are lent: both files, a program, and the journal of its steps, which is of
+/// the current version.
 ///
 /// What it owns always fits together: [`Refusal::Length`], [`Refusal::File`], [`Refusal::Program`],
 /// [`Refusal::Room`] and [`Refusal::Journal`] come from where a machine is made, if at all. Its facts
@@ -53,7 +54,7 @@ impl Machine {
     ) -> Result<Machine, Refusal> {
         let program: Vec<u8> = words.iter().flat_map(|word| word.to_le_bytes()).collect();
         // The length first: the files of another one need not fit into memory.
-        fresh(k, &mut [0; 8])?;
+        fresh(k, JournalVersion::Current, &mut [0; 8])?;
         let (z, p) = (vec![0; vector_file_bytes(k)], vec![0; predicate_file_bytes(k)]);
         Machine::started(k, facts, z, p, program, bytes)
     }
@@ -86,7 +87,7 @@ impl Machine {
         }
         // One byte too many is refused as any further ones are.
         let mut journal = vec![0; bytes.min(MOST_JOURNAL_BYTES + 1)];
-        fresh(k, &mut journal)?;
+        fresh(k, JournalVersion::Current, &mut journal)?;
         Ok(Machine { k, facts, z, p, program, journal })
     }
 
@@ -170,7 +171,7 @@ impl Machine {
     ///
     /// [`Refusal::End`], [`Refusal::Unknown`], [`Refusal::Undefined`], [`Refusal::Full`].
     pub fn step(&mut self) -> Result<(), Refusal> {
-        step(self.k, self.facts, &mut self.z, &self.p, &self.program, &mut self.journal)
+        step(self.k, self.facts, &mut self.z, &mut self.p, &self.program, &mut self.journal)
     }
 
     /// Takes the last step back.
@@ -179,7 +180,7 @@ impl Machine {
     ///
     /// [`Refusal::Empty`].
     pub fn back(&mut self) -> Result<(), Refusal> {
-        back(self.k, &mut self.z, &self.p, &mut self.journal)
+        back(self.k, &mut self.z, &mut self.p, &mut self.journal)
     }
 
     /// Takes every step back: the position is 0 then, and each register that a step wrote is what it was

@@ -3,14 +3,15 @@
 use std::fmt;
 
 /// Why a call did nothing. Refusals are tested in the order of their numbers, except that
-/// [`Refusal::Out`] is tested before [`Refusal::Unknown`].
+/// [`Refusal::Out`] is tested before [`Refusal::Unknown`], and that a step's [`Refusal::Journal`] comes once more
+/// before [`Refusal::Full`], where it writes a predicate register and the journal is of the former version.
 ///
 /// Later versions may have more, so a `match` needs an arm for the others.
 ///
 /// ```
-/// use ghishmadul::{fresh, Refusal};
+/// use ghishmadul::{fresh, JournalVersion, Refusal};
 ///
-/// let refusal = fresh(3, &mut [0; 8]).unwrap_err();
+/// let refusal = fresh(3, JournalVersion::Current, &mut [0; 8]).unwrap_err();
 /// assert_eq!(refusal, Refusal::Length);
 /// assert_eq!((refusal.number(), refusal.name()), (1, "LENGTH"));
 /// assert_eq!(refusal.sentence(), "the length is not 1, 2, 4, 8 or 16");
@@ -26,7 +27,8 @@ pub enum Refusal {
     Program,
     /// 4: the journal has under 8 or over 65,536 bytes.
     Room,
-    /// 5: the journal is not well formed.
+    /// 5: the journal is not well formed, or of a version that has no entry for the step; or a fresh one was told
+    /// a version that there is not.
     Journal,
     /// 6: the place is not below the number of words.
     End,
@@ -69,7 +71,7 @@ impl Refusal {
             }
             Program => (3, "PROGRAM", "the program is not whole words, or has over 256 of them"),
             Room => (4, "ROOM", "the journal has under 8 or over 65,536 bytes"),
-            Journal => (5, "JOURNAL", "the journal is not well formed"),
+            Journal => (5, "JOURNAL", "the journal is not well formed, or its version has no place for this"),
             End => (6, "END", "the program has no word at this place"),
             Unknown => (7, "UNKNOWN", "no row of the table matches the word"),
             Undefined => (

@@ -136,7 +136,7 @@ registers! {
 }
 
 registers! {
-    /// A predicate register. P0 to P7 can govern; the others can only be drawn and set.
+    /// A predicate register. P0 to P7 can govern; ptrue and pfalse can write each.
     ///
     /// ```
     /// use ghishmadul::{Predicate, Refusal};
@@ -150,7 +150,7 @@ registers! {
 }
 
 impl Predicate {
-    /// Whether a word can name it: P0 to P7.
+    /// Whether it can govern the lanes of a word: P0 to P7.
     pub const fn can_govern(self) -> bool {
         self.number() <= 7
     }
@@ -171,6 +171,14 @@ impl Register {
         match self {
             Register::Vector(_) => Kind::Vector,
             Register::Predicate(_) => Kind::Predicate,
+        }
+    }
+
+    /// The register that an entry of a journal names by its number.
+    pub(crate) fn of_entry(number: usize) -> Result<Register, Refusal> {
+        match number.checked_sub(Vector::ALL.len()) {
+            None => Vector::try_from(number).map(Register::from),
+            Some(number) => Predicate::try_from(number).map(Register::from),
         }
     }
 

@@ -31,10 +31,11 @@ macro_rules! rows {
 rows! {
     /// A row of the table of words, by the name of its instruction: s is signed, u unsigned.
     ///
-    /// From [`Row::Saddlb`] on a word has no predicate, and each lane e of its destination is two numbers added
-    /// (add) or the first less the second (sub). The second is a half-width lane of the second source: lane
-    /// 2e (b, bottom) or 2e + 1 (t, top). The first is in a long row (l) the half-width lane of the first source
-    /// with that number, and in a wide row (w) its lane e at the full width.
+    /// From [`Row::Saddlb`] to [`Row::Usubwt`] a word has no predicate, and each lane e of its destination is two
+    /// numbers added (add) or the first less the second (sub). The second is a half-width lane of the second
+    /// source: lane 2e (b, bottom) or 2e + 1 (t, top). The first is in a long row (l) the half-width lane of the
+    /// first source with that number, and in a wide row (w) its lane e at the full width. [`Row::Ptrue`] and
+    /// [`Row::Pfalse`] make a predicate and read no register.
     ///
     /// Later versions may have more, so a `match` needs an arm for the others.
     ///
@@ -87,10 +88,14 @@ rows! {
     Usubwb "usubwb",
     /// Wide difference of lanes e and half-width lanes 2e + 1.
     Usubwt "usubwt",
+    /// A predicate register of the lanes that a pattern makes active; each other bit is cleared.
+    Ptrue "ptrue",
+    /// A predicate register without a bit.
+    Pfalse "pfalse",
 }
 
 impl Row {
-    /// The row's number, its place in the table: 0 to 22.
+    /// The row's number, its place in the table: 0 to 24.
     pub const fn number(self) -> usize {
         self as usize
     }
@@ -101,14 +106,17 @@ impl Row {
         known(Refusal::check(about.number));
         let widths = Size::ALL.map(|size| {
             let of = |bytes: [u64; 4]| Size::of_bytes(bytes[size.number()]);
-            Some(Widths { n: of(about.n_bytes)?, m: of(about.m_bytes), d: of(about.d_bytes)? })
+            Some(Widths { n: of(about.n_bytes), m: of(about.m_bytes), d: of(about.d_bytes)? })
         });
         About {
             signed: about.is_signed != 0,
+            has_n: about.has_n != 0,
             has_g: about.has_g != 0,
             has_m: about.has_m != 0,
             has_q: about.has_q != 0,
+            has_pattern: about.has_pattern != 0,
             reads_destination: about.reads_destination != 0,
+            writes_predicate: about.writes_predicate != 0,
             need: Facts::from_byte(about.need as u8),
             widths,
         }
@@ -137,14 +145,20 @@ impl fmt::Display for Row {
 pub struct About {
     /// Whether lanes are read as signed numbers.
     pub signed: bool,
+    /// Whether a word has a source.
+    pub has_n: bool,
     /// Whether a word has a governing predicate.
     pub has_g: bool,
     /// Whether a word has a second source.
     pub has_m: bool,
     /// Whether a word has a Q.
     pub has_q: bool,
+    /// Whether a word has a pattern.
+    pub has_pattern: bool,
     /// Whether what stood in the destination enters into the sum.
     pub reads_destination: bool,
+    /// Whether the destination is a predicate register.
+    pub writes_predicate: bool,
     /// The facts of which one is enough; [`Facts::NONE`] where the row needs none.
     pub need: Facts,
     /// By the size of a word.
@@ -167,10 +181,10 @@ impl About {
 /// The widths of the lanes that a word reads and writes.
 #[derive(Clone, Copy, Debug, PartialEq, Eq)]
 pub struct Widths {
-    /// Of the source.
-    pub n: Size,
+    /// Of the source, if the row has one.
+    pub n: Option<Size>,
     /// Of the second source, if the row has one.
     pub m: Option<Size>,
-    /// Of the destination.
+    /// Of the destination; of a predicate register, the lanes that its bits govern.
     pub d: Size,
 }

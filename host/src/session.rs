@@ -106,8 +106,8 @@ pub fn write_session(
     Ok(bytes)
 }
 
-/// Writes the line of the step at `position`, which gave this answer and left this vector file, at the
-/// front of `out`, and gives its length. The line ends in a newline; the bytes past it stay.
+/// Writes the line of the step at `position`, which gave this answer and left these files, at the front of
+/// `out`, and gives its length. The line ends in a newline; the bytes past it stay.
 ///
 /// # Errors
 ///

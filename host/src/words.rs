@@ -1,7 +1,9 @@
 //! Words: their fields, their texts and what they lack.
 
 use crate::refusal::known;
-use crate::{boundary, Facts, Predicate, Refusal, Row, Size, Vector, LEAST_TEXT_OUT};
+use crate::{
+    boundary, Facts, Pattern, Predicate, Refusal, Register, Row, Size, Vector, LEAST_TEXT_OUT,
+};
 use std::fmt;
 
 /// The row and the fields of a word.
@@ -11,16 +13,18 @@ pub struct Fields {
     pub row: Row,
     /// Bits 23:22.
     pub size: Size,
-    /// Bits 9:5, the source.
-    pub n: Vector,
-    /// Bits 4:0, the destination.
-    pub d: Vector,
+    /// Bits 9:5, the source, if the row has one.
+    pub n: Option<Vector>,
+    /// Bits 4:0, the destination: a vector register, or for ptrue and pfalse a predicate register, bits 3:0.
+    pub d: Register,
     /// Bits 12:10, the governing predicate, if the row has one.
     pub g: Option<Predicate>,
     /// Bits 20:16, the second source, if the row has one.
     pub m: Option<Vector>,
     /// Bit 30, if the row has it: whether 16 bytes of the source are read, and not 8.
     pub q: Option<bool>,
+    /// Bits 9:5 of ptrue: which lanes it makes active.
+    pub pattern: Option<Pattern>,
 }
 
 /// The row and the fields of a word, on a core with these facts.
@@ -37,14 +41,20 @@ pub fn decode(word: u32, facts: Facts) -> Result<Fields, Refusal> {
     let row = known(Row::try_from(fields.row as usize));
     let about = row.about();
     let vector = |number: u64| known(Vector::try_from(number as usize));
+    let predicate = |number: u64| known(Predicate::try_from(number as usize));
+    let d = match about.writes_predicate {
+        true => predicate(fields.d).into(),
+        false => vector(fields.d).into(),
+    };
     Ok(Fields {
         row,
         size: known(Size::try_from(fields.size as usize)),
-        n: vector(fields.n),
-        d: vector(fields.d),
-        g: about.has_g.then(|| known(Predicate::try_from(fields.g as usize))),
+        n: about.has_n.then(|| vector(fields.n)),
+        d,
+        g: about.has_g.then(|| predicate(fields.g)),
         m: about.has_m.then(|| vector(fields.m)),
         q: about.has_q.then_some(fields.q != 0),
+        pattern: about.has_pattern.then(|| known(Pattern::try_from(fields.pattern as usize))),
     })
 }
 

@@ -3,6 +3,7 @@
 
 #![allow(clippy::missing_safety_doc)]
 
+mod made;
 mod reading;
 mod slips;
 
@@ -61,10 +62,19 @@ pub extern "C" fn ln_decode(word: u32, facts: u8) -> Fields {
             g: fields.g as u64,
             m: fields.m as u64,
             q: fields.q as u64,
+            pattern: made::pattern(&fields),
         },
-        Err(refusal) => {
-            Fields { number: refusal.number(), row: 0, size: 0, n: 0, d: 0, g: 0, m: 0, q: 0 }
-        }
+        Err(refusal) => Fields {
+            number: refusal.number(),
+            row: 0,
+            size: 0,
+            n: 0,
+            d: 0,
+            g: 0,
+            m: 0,
+            q: 0,
+            pattern: 0,
+        },
     }
 }
 
@@ -79,8 +89,13 @@ pub unsafe extern "C" fn ln_assemble(text: *const u8, text_len: usize, facts: u8
 }
 
 #[no_mangle]
-pub unsafe extern "C" fn ln_fresh(k: usize, journal: *mut u8, journal_len: usize) -> u64 {
-    number(reference::fresh(k, lent_mut(journal, journal_len)))
+pub unsafe extern "C" fn ln_fresh(
+    k: usize,
+    version: u64,
+    journal: *mut u8,
+    journal_len: usize,
+) -> u64 {
+    number(made::fresh(k, version, lent_mut(journal, journal_len)))
 }
 
 #[no_mangle]
@@ -89,14 +104,14 @@ pub unsafe extern "C" fn ln_step(
     facts: u8,
     z: *mut u8,
     z_len: usize,
-    p: *const u8,
+    p: *mut u8,
     p_len: usize,
     program: *const u8,
     program_len: usize,
     journal: *mut u8,
     journal_len: usize,
 ) -> u64 {
-    let (z, p) = (lent_mut(z, z_len), lent(p, p_len));
+    let (z, p) = (lent_mut(z, z_len), lent_mut(p, p_len));
     let (program, journal) = (lent(program, program_len), lent_mut(journal, journal_len));
     number(slips::step(k, facts, z, p, program, journal))
 }
@@ -106,12 +121,12 @@ pub unsafe extern "C" fn ln_back(
     k: usize,
     z: *mut u8,
     z_len: usize,
-    p: *const u8,
+    p: *mut u8,
     p_len: usize,
     journal: *mut u8,
     journal_len: usize,
 ) -> u64 {
-    let (z, p, journal) = (lent_mut(z, z_len), lent(p, p_len), lent_mut(journal, journal_len));
+    let (z, p, journal) = (lent_mut(z, z_len), lent_mut(p, p_len), lent_mut(journal, journal_len));
     number(slips::back(k, z, p, journal))
 }
 
@@ -179,6 +194,9 @@ pub extern "C" fn ln_read_row(row: usize) -> About {
             n_bytes: bytes(about.n_bytes),
             m_bytes: bytes(about.m_bytes),
             d_bytes: bytes(about.d_bytes),
+            has_n: about.has_n.into(),
+            has_pattern: about.has_pattern.into(),
+            writes_predicate: about.writes_predicate.into(),
         },
         Err(refusal) => About {
             number: refusal.number(),
@@ -191,6 +209,9 @@ pub extern "C" fn ln_read_row(row: usize) -> About {
             n_bytes: [0; 4],
             m_bytes: [0; 4],
             d_bytes: [0; 4],
+            has_n: 0,
+            has_pattern: 0,
+            writes_predicate: 0,
         },
     }
 }
@@ -300,9 +321,9 @@ pub unsafe extern "C" fn ln_write_line(
     position: usize,
     number: u64,
 ) -> Answer {
-    let program = lent(program, program_len);
+    let (program, out) = (lent(program, program_len), lent_mut(out, out_len));
     let line = reference::write_line(
-        lent_mut(out, out_len),
+        out,
         k,
         slips::line_facts(facts, program, position),
         lent(z, z_len),
@@ -311,5 +332,8 @@ pub unsafe extern "C" fn ln_write_line(
         position,
         Refusal::check(slips::line_number(number)),
     );
+    if let (Ok(length), Ok(next), 0) = (line, reference::read_word(program, position), number) {
+        made::line(k, &mut out[..length], next.word);
+    }
     answer(line.map(|length| length as u64))
 }

@@ -1,5 +1,6 @@
 //! The reference's lanes, entries and rows with the slip that is named; none if none is.
 
+use crate::made;
 use crate::slips::slips;
 use ghishmadul::{Lane, Refusal};
 use reference::{About, Asked, Entry};
@@ -8,7 +9,8 @@ use reference::{About, Asked, Entry};
 const SADDV: usize = 0;
 const ADDQV: usize = 2;
 const SADALP: usize = 5;
-const USUBWT: usize = 22;
+const PTRUE: usize = 23;
+const PFALSE: usize = 24;
 
 pub fn version() -> u64 {
     if slips("the former version told") {
@@ -77,15 +79,15 @@ pub fn read_entry(k: usize, journal: &[u8], index: usize) -> Result<Entry, Refus
         }
         (Err(Refusal::Range), _) if slips("an entry past the held ones told") && fits => Ok(any()),
         (Err(Refusal::Journal), _) if slips("an entry of any journal told") && fits => Ok(any()),
-        (told, _) => told,
+        (told, _) => told.map(|entry| made::told(k, entry)),
     }
 }
 
 pub fn read_row(row: usize) -> Result<About, Refusal> {
     let row = if slips("a row's low byte alone tested") { row & 255 } else { row };
     let about = match reference::read_row(row) {
-        Err(_) if slips("a row past the last told") && row == USUBWT + 1 => {
-            reference::read_row(USUBWT)?
+        Err(_) if slips("a row past the last told") && row == PFALSE + 1 => {
+            reference::read_row(PFALSE)?
         }
         answer => answer?,
     };
@@ -100,6 +102,16 @@ pub fn read_row(row: usize) -> Result<About, Refusal> {
         () if slips("addqv told as signed") && row == ADDQV => About { signed: true, ..about },
         () if slips("sadalp's source told at the full width") && row == SADALP => {
             About { n_bytes: about.d_bytes, ..about }
+        }
+        () if slips("a source told of every row") => About { has_n: true, ..about },
+        () if slips("a pattern told of pfalse") && row == PFALSE => {
+            About { has_pattern: true, ..about }
+        }
+        () if slips("ptrue told as writing a vector") && row == PTRUE => {
+            About { writes_predicate: false, ..about }
+        }
+        () if slips("pfalse told at every size") && row == PFALSE => {
+            About { d_bytes: [1, 2, 4, 8], ..about }
         }
         () if slips("a second source told at every size") => {
             About { m_bytes: [1, 1, 2, 4], ..about }

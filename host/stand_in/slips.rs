@@ -1,5 +1,6 @@
 //! The reference with the slip of `slips.txt` that the variable SLIP names; none if none is named.
 
+use crate::made::{self, Lent};
 use ghishmadul::{Facts, Refusal, Session};
 use reference::{facts_of, Asked, Fields, HIGHER, TABLE};
 use std::ops::Range;
@@ -10,10 +11,14 @@ const UNSIGNED: u32 = 1 << 11;
 const SUBTRACT: u32 = 1 << 12;
 const WIDE: u32 = 1 << 14;
 
-/// The row of addqv, the first row of the widening words, and the last.
+/// The row of addqv, the first row of the widening words, and their last.
 const ADDQV: usize = 2;
 const SADDLB: usize = 7;
 const USUBWT: usize = 22;
+
+/// The rows of the words that make a predicate.
+const PTRUE: usize = 23;
+const PFALSE: usize = 24;
 
 thread_local! {
     static SLIP: String = std::env::var("SLIP").unwrap_or_default();
@@ -36,13 +41,17 @@ pub fn facts(byte: u8, word: impl FnOnce() -> Option<u32>) -> Facts {
         "facts read from the neighbouring bit" => facts_of(byte >> 1),
         "facts with a higher bit taken for none" if byte & HIGHER != 0 => Facts::NONE,
         "usubwt accepted whatever the facts" if row == Some(USUBWT) => Facts::ALL,
+        "ptrue's need taken for saddlb's" if row == Some(PTRUE) => {
+            Facts { sve: facts.sve2, ..facts }
+        }
+        "pfalse accepted whatever the facts" if row == Some(PFALSE) => Facts::ALL,
         "sve2 taken to imply sve" => Facts { sve: facts.sve || facts.sve2, ..facts },
         "addqv's need taken for saddv's" if row == Some(ADDQV) => {
             Facts { sve2p1: facts.sve, sme2p1: facts.sme, ..facts }
         }
         "a need asked with and" => {
             let both = match row {
-                Some(0 | 1) => facts.sve && facts.sme,
+                Some(0 | 1 | PTRUE | PFALSE) => facts.sve && facts.sme,
                 Some(ADDQV) => facts.sve2p1 && facts.sme2p1,
                 _ => facts.sve2 && facts.sme,
             };
@@ -86,6 +95,7 @@ pub fn assemble(text: &[u8], byte: u8) -> Result<u32, Refusal> {
     if slips("a byte past the text read") {
         unsafe { text.as_ptr().add(text.len()).read_volatile() };
     }
+    let text = &made::read_as(text)[..];
     if slips("two spaces accepted") {
         let text = String::from_utf8_lossy(text).replacen("  ", " ", 1);
         return reference::assemble(text.as_bytes(), facts);
@@ -149,23 +159,29 @@ pub fn line_number(number: u64) -> u64 {
     }
 }
 
-pub fn back(k: usize, z: &mut [u8], p: &[u8], journal: &mut [u8]) -> Result<(), Refusal> {
+pub fn back(k: usize, z: &mut [u8], p: &mut [u8], journal: &mut [u8]) -> Result<(), Refusal> {
+    if SLIP.with(String::is_empty) {
+        return reference::back(k, z, p, journal);
+    }
     if slips("entry left after a back") {
         let before = journal.to_vec();
         reference::back(k, z, p, journal)?;
         journal[8..].copy_from_slice(&before[8..]);
         return Ok(());
     }
-    reference::back(k, z, p, journal)
+    made::back(k, z, p, journal)
 }
 
 /// The number in the two bytes of a journal's count.
-fn count(journal: &[u8]) -> Option<usize> {
+pub fn count(journal: &[u8]) -> Option<usize> {
     Some(u16::from_le_bytes([*journal.get(6)?, *journal.get(7)?]) as usize)
 }
 
 pub fn position(k: usize, journal: &[u8]) -> Result<usize, Refusal> {
-    match reference::position(k, journal) {
+    if SLIP.with(String::is_empty) {
+        return reference::position(k, journal);
+    }
+    match reference::position(k, &made::seen_as(k, journal)) {
         Err(Refusal::Journal) if slips("the position of any journal told") => {
             count(journal).ok_or(Refusal::Journal)
         }
@@ -214,14 +230,14 @@ pub fn step(
     k: usize,
     byte: u8,
     z: &mut [u8],
-    p: &[u8],
+    p: &mut [u8],
     program: &[u8],
     journal: &mut [u8],
 ) -> Result<(), Refusal> {
     if SLIP.with(String::is_empty) {
         return reference::step(k, facts_of(byte), z, p, program, journal);
     }
-    let before = z.to_vec();
+    let [before, predicates, entries] = [&*z, &*p, &*journal].map(|part| part.to_vec());
     let word = next(program, journal);
     let facts = match slips("a step done that the facts forbid") {
         true => Facts::ALL,
@@ -229,25 +245,56 @@ pub fn step(
     };
     let fields = word.and_then(|word| reference::decode(word, facts).ok());
     let answer = reference::step(k, facts, z, p, program, journal);
-    match answer {
-        Err(Refusal::Undefined) if slips("a full journal tested before the facts") => {
-            let (mut z, mut journal) = (z.to_vec(), journal.to_vec());
-            reference::step(k, Facts::ALL, &mut z, p, program, &mut journal)
-                .or_else(|refusal| if refusal == Refusal::Full { Err(refusal) } else { Ok(()) })?;
-        }
-        Err(Refusal::Full) if slips("a full journal's step changes its count") => journal[7] ^= 1,
-        Err(Refusal::Journal) if slips("end tested before the journal") && program.is_empty() => {
-            return Err(Refusal::End);
-        }
-        _ => {}
+    let mut lent = Lent { k, z, p, journal };
+    if let Err(refusal) = answer {
+        another_refusal(&mut lent, refusal, program)?;
     }
-    if let (Ok(()), Some(fields)) = (answer, fields) {
-        slip(k, z, p, before, fields);
+    match fields {
+        Some(fields) if TABLE[fields.row].writes_predicate() => {
+            let again = |z: &mut [u8], p: &mut [u8], journal: &mut [u8]| {
+                reference::step(k, facts, z, p, program, journal)
+            };
+            made::answer(&mut lent, answer, again)?;
+            made::slip(&mut lent, [before, predicates, entries], fields);
+            Ok(())
+        }
+        Some(fields) if answer.is_ok() => {
+            slip(k, lent.z, lent.p, before, fields);
+            version_slip(lent.journal);
+            answer
+        }
+        _ => answer,
     }
-    answer
 }
 
-/// Changes what an accepted step wrote.
+/// What a slip makes of a refusal of a step: another one, or none and a byte changed.
+fn another_refusal(lent: &mut Lent<'_>, of: Refusal, program: &[u8]) -> Result<(), Refusal> {
+    let Lent { k, z, p, journal } = lent;
+    match of {
+        Refusal::Undefined if slips("a full journal tested before the facts") => {
+            let (mut z, mut p, mut journal) = (z.to_vec(), p.to_vec(), journal.to_vec());
+            reference::step(*k, Facts::ALL, &mut z, &mut p, program, &mut journal)
+                .or_else(|refusal| if refusal == Refusal::Full { Err(refusal) } else { Ok(()) })
+        }
+        Refusal::Full if slips("a full journal's step changes its count") => {
+            journal[7] ^= 1;
+            Ok(())
+        }
+        Refusal::Journal if slips("end tested before the journal") && program.is_empty() => {
+            Err(Refusal::End)
+        }
+        _ => Ok(()),
+    }
+}
+
+/// Changes the version of a journal that a step has written.
+fn version_slip(journal: &mut [u8]) {
+    if slips("version 2 written by every step") {
+        journal[3] = 2;
+    }
+}
+
+/// Changes what an accepted step of a word that writes a vector wrote.
 fn slip(k: usize, z: &mut [u8], p: &[u8], mut before: Vec<u8>, fields: Fields) {
     let bytes = 16 * k;
     let destination = fields.d * bytes..(fields.d + 1) * bytes;
@@ -257,7 +304,7 @@ fn slip(k: usize, z: &mut [u8], p: &[u8], mut before: Vec<u8>, fields: Fields) {
     let bit = |at: usize| p[governing + at / 8] >> (at % 8) & 1;
     let pairs = fields.row == 5 || fields.row == 6;
     let word = word_of(&fields);
-    let has = |bits: u32| fields.row >= SADDLB && word & bits != 0;
+    let has = |bits: u32| (SADDLB..=USUBWT).contains(&fields.row) && word & bits != 0;
 
     // The predicate file with another bit in each lane's place.
     let moved = |from: fn(usize, usize) -> usize| {
@@ -277,8 +324,8 @@ fn slip(k: usize, z: &mut [u8], p: &[u8], mut before: Vec<u8>, fields: Fields) {
     // What this word leaves of the bytes before.
     let mut again = |word: u32, p: &[u8], before: &mut Vec<u8>| {
         let mut journal = vec![0; 8 + 1 + bytes];
-        reference::fresh(k, &mut journal).expect("a legal length");
-        reference::step(k, Facts::ALL, before, p, &word.to_le_bytes(), &mut journal)
+        reference::fresh(k, 1, &mut journal).expect("a legal length");
+        reference::step(k, Facts::ALL, before, &mut p.to_vec(), &word.to_le_bytes(), &mut journal)
             .expect("an accepted word");
         z.copy_from_slice(before);
     };
@@ -360,8 +407,8 @@ fn negate(lane: &mut [u8]) {
     }
 }
 
-/// A word with these fields; one that its row does not have is 0.
+/// A word that writes a vector, with these fields; one that its row does not have is 0.
 fn word_of(fields: &Fields) -> u32 {
-    let Fields { row, size, n, d, g, m, q } = *fields;
+    let Fields { row, size, n, d, g, m, q, .. } = *fields;
     TABLE[row].value | (q << 30 | size << 22 | m << 16 | g << 10 | n << 5 | d) as u32
 }

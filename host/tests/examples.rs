@@ -15,6 +15,7 @@ macro_rules! example {
 
 example!(cores, "../examples/cores.rs");
 example!(first, "../examples/first.rs");
+example!(kernel, "../examples/kernel.rs");
 example!(lanes, "../examples/lanes.rs");
 example!(machine, "../examples/machine.rs");
 example!(moves, "../examples/moves.rs");

@@ -1,6 +1,6 @@
 /* The numbers, names and sentences of include/ln.h, a line each, with the lengths that are accepted; then the
- * rows of the table of words with what each is and the sets of facts that accept a word of it, the shapes of
- * the answers, and the line of a step with the greatest answer number. The crate and its reference have the
+ * rows of the table of words with what each is, the versions of a journal, the patterns, the shapes of the answers,
+ * the sets of facts that accept a word of each row, and the line of a step with the greatest answer number. The crate and its reference have the
  * same. Every cast is LN_CAST, so that this is C++ without an old one. */
 #include "ln.h"
 
@@ -23,7 +23,7 @@ static void say_lengths(void)
         say("LENGTHS", lengths[k]);
     }
     for (k = 0; k <= LN_MOST_K + 1; k++) {
-        if (ln_fresh(k, journal, sizeof journal) == LN_DONE) {
+        if (ln_fresh(k, LN_JOURNAL_VERSION, journal, sizeof journal) == LN_DONE) {
             say("fresh", k);
         }
     }
@@ -66,6 +66,8 @@ static void say_rows(void)
     say("SSUBWT", LN_SSUBWT);
     say("USUBWB", LN_USUBWB);
     say("USUBWT", LN_USUBWT);
+    say("PTRUE", LN_PTRUE);
+    say("PFALSE", LN_PFALSE);
 }
 
 static void say_widths(const uint64_t *widths)
@@ -95,14 +97,64 @@ static void say_what_rows_are(void)
         say_widths(about.n_bytes);
         say_widths(about.m_bytes);
         say_widths(about.d_bytes);
-        printf("\n");
+        printf(" %lu %lu %lu\n", LN_CAST(unsigned long, about.has_n), LN_CAST(unsigned long, about.has_pattern),
+               LN_CAST(unsigned long, about.writes_predicate));
     }
     printf("%s\n", ln_row_name(UINT64_MAX));
+}
+
+/* The versions of a journal, which of some numbers are one, and the registers of entries. */
+static void say_journals(void)
+{
+    static const uint64_t versions[] = {0, 1, 2, 3, 65537, 4294967298u, UINT64_MAX};
+    static const uint64_t targets[] = {0, 31, 32, 47};
+    uint8_t journal[LN_LEAST_JOURNAL_BYTES];
+    size_t at;
+
+    say("JOURNAL_VERSION", LN_JOURNAL_VERSION);
+    say("FORMER_JOURNAL_VERSION", LN_FORMER_JOURNAL_VERSION);
+    for (at = 0; at < sizeof versions / sizeof *versions; at++) {
+        printf("fresh of %lu: %lu\n", LN_CAST(unsigned long, versions[at]),
+               LN_CAST(unsigned long, ln_fresh(1, versions[at], journal, sizeof journal)));
+    }
+    for (at = 0; at < sizeof targets / sizeof *targets; at++) {
+        printf("target %lu: %d %lu\n", LN_CAST(unsigned long, targets[at]), LN_IS_PREDICATE(targets[at]),
+               LN_CAST(unsigned long, LN_REGISTER_OF(targets[at])));
+    }
+}
+
+/* The patterns by their names, and those of the enumeration. */
+static void say_patterns(void)
+{
+    uint64_t pattern;
+
+    for (pattern = 0; pattern <= LN_PATTERNS; pattern++) {
+        say(ln_pattern_name(pattern), pattern);
+    }
+    say("POW2", LN_POW2);
+    say("VL1", LN_VL1);
+    say("VL2", LN_VL2);
+    say("VL3", LN_VL3);
+    say("VL4", LN_VL4);
+    say("VL5", LN_VL5);
+    say("VL6", LN_VL6);
+    say("VL7", LN_VL7);
+    say("VL8", LN_VL8);
+    say("VL16", LN_VL16);
+    say("VL32", LN_VL32);
+    say("VL64", LN_VL64);
+    say("VL128", LN_VL128);
+    say("VL256", LN_VL256);
+    say("MUL4", LN_MUL4);
+    say("MUL3", LN_MUL3);
+    say("ALL", LN_ALL);
 }
 
 /* How many bytes the answers have, and where some of their members stand. */
 static void say_shapes(void)
 {
+    say("bytes of a word's fields", sizeof(struct ln_fields));
+    say("its pattern at", offsetof(struct ln_fields, pattern));
     say("bytes of a lane's answer", sizeof(struct ln_lane));
     say("its value at", offsetof(struct ln_lane, value));
     say("its bit at", offsetof(struct ln_lane, bit));
@@ -112,6 +164,7 @@ static void say_shapes(void)
     say("bytes of a row's answer", sizeof(struct ln_row_about));
     say("its need at", offsetof(struct ln_row_about, need));
     say("its d_bytes at", offsetof(struct ln_row_about, d_bytes));
+    say("its writes_predicate at", offsetof(struct ln_row_about, writes_predicate));
 }
 
 /* The facts, and where a session's are told. */
@@ -131,13 +184,14 @@ static void say_facts(void)
     say("its facts at", offsetof(struct ln_session, facts));
 }
 
-/* For a word of each row, at size 1 and with registers 0, which of the 32 sets of facts accept it. */
+/* For a word of each row, at size 1 if the row has a size, and with registers 0, which of the 32 sets of facts accept it. */
 static void say_accepted(void)
 {
     static const uint32_t words[] = {
         0x04402000, 0x04412000, 0x04452000, 0x0E703800, 0x2E703800, 0x4444A000, 0x4445A000, 0x45400000,
         0x45400400, 0x45400800, 0x45400C00, 0x45401000, 0x45401400, 0x45401800, 0x45401C00, 0x45404000,
-        0x45404400, 0x45404800, 0x45404C00, 0x45405000, 0x45405400, 0x45405800, 0x45405C00};
+        0x45404400, 0x45404800, 0x45404C00, 0x45405000, 0x45405400, 0x45405800, 0x45405C00, 0x2558E000,
+        0x2518E400};
     size_t row;
     unsigned facts;
 
@@ -199,6 +253,8 @@ int main(void)
     }
     say_rows();
     say_what_rows_are();
+    say_journals();
+    say_patterns();
     say_shapes();
     say_facts();
     say_accepted();

@@ -7,7 +7,8 @@ use ghishmadul::*;
 fn sizes() -> impl Iterator<Item = (&'static str, usize)> {
     let ends = [("LEAST_K", LEAST_K), ("MOST_K", MOST_K)];
     let lengths = LENGTHS.iter().map(|&k| ("LENGTHS", k));
-    let accepted = (0..=MOST_K + 1).filter(|&k| fresh(k, &mut [0; 8]).is_ok());
+    let accepted =
+        (0..=MOST_K + 1).filter(|&k| fresh(k, JournalVersion::Current, &mut [0; 8]).is_ok());
     let lengths = lengths.chain(accepted.map(|k| ("fresh", k)));
     let sizes = [
         ("VECTOR_REGISTERS", VECTOR_REGISTERS),
@@ -53,6 +54,7 @@ fn the_header_has_the_same_numbers() {
         .chain(sentences())
         .chain(rows)
         .chain(what_rows_are())
+        .chain(journals_and_patterns())
         .chain(shapes().into_iter().map(said))
         .chain(facts().into_iter().map(said))
         .chain(needs)
@@ -76,27 +78,58 @@ fn what_rows_are() -> impl Iterator<Item = String> {
         let flags = [told.signed, told.has_g, told.has_m, told.has_q, told.reads_destination];
         let flags = flags.map(usize::from).to_vec();
         let widths = [told.n_bytes, told.m_bytes, told.d_bytes].concat();
-        let numbers = [&[0][..], &flags[..], &[told.need.into()], &widths].concat();
+        let last = [told.has_n, told.has_pattern, told.writes_predicate].map(usize::from);
+        let numbers = [&[0][..], &flags[..], &[told.need.into()], &widths, &last].concat();
         format!("{}{}\n", row, numbers.iter().map(|n| format!(" {}", n)).collect::<String>())
     });
-    let past = format!("no row {}{}\n", Refusal::Range.number(), " 0".repeat(18));
+    let past = format!("no row {}{}\n", Refusal::Range.number(), " 0".repeat(21));
     lines.chain([past, "no row\n".to_string()])
 }
 
+/// The versions of a journal, which of some numbers are one, the registers of entries, and the patterns.
+fn journals_and_patterns() -> Vec<String> {
+    let versions = [JournalVersion::Current, JournalVersion::Former].map(JournalVersion::number);
+    let [current, former] = versions;
+    let mut lines = vec![
+        format!("JOURNAL_VERSION {}\n", current),
+        format!("FORMER_JOURNAL_VERSION {}\n", former),
+    ];
+    for told in [0, 1, 2, 3, (1 << 16) + 1, (1 << 32) + 2, u64::MAX] {
+        let answer = reference::fresh(1, told, &mut [0; 8]);
+        lines.push(format!("fresh of {}: {}\n", told, answer.err().map_or(0, Refusal::number)));
+    }
+    for target in [0, 31, 32, 47] {
+        let (kind, number) = if target < 32 { (0, target) } else { (1, target - 32) };
+        lines.push(format!("target {}: {} {}\n", target, kind, number));
+    }
+    for pattern in Pattern::EVERY {
+        lines.push(format!("{} {}\n", pattern.name(), pattern.number()));
+    }
+    lines.push("no pattern 32\n".to_string());
+    let named = Pattern::EVERY.into_iter().filter(|pattern| !pattern.name().starts_with('#'));
+    lines
+        .extend(named.map(|named| format!("{} {}\n", named.name().to_uppercase(), named.number())));
+    lines
+}
+
 /// How many bytes the answers have, and where some of their members stand.
-fn shapes() -> [(&'static str, usize); 9] {
-    let (lane, entry, row) = unsafe {
+fn shapes() -> [(&'static str, usize); 12] {
+    let (fields, lane, entry, row) = unsafe {
         (
+            boundary::ln_decode(0, 0),
             boundary::ln_read_lane(0, [].as_ptr(), 0, [].as_ptr(), 0, 0, 0, 0, 0, 0),
             boundary::ln_read_entry(0, [].as_ptr(), 0, 0),
             boundary::ln_read_row(0),
         )
     };
     let place = |of: *const u64, whole: usize| of as usize - whole;
+    let in_fields = |of| place(of, &fields as *const boundary::Fields as usize);
     let in_lane = |of| place(of, &lane as *const boundary::Lane as usize);
     let in_entry = |of| place(of, &entry as *const boundary::Entry as usize);
     let in_row = |of| place(of, &row as *const boundary::About as usize);
     [
+        ("bytes of a word's fields", std::mem::size_of::<boundary::Fields>()),
+        ("its pattern at", in_fields(&fields.pattern)),
         ("bytes of a lane's answer", std::mem::size_of::<boundary::Lane>()),
         ("its value at", in_lane(&lane.value)),
         ("its bit at", in_lane(&lane.bit)),
@@ -106,6 +139,7 @@ fn shapes() -> [(&'static str, usize); 9] {
         ("bytes of a row's answer", std::mem::size_of::<boundary::About>()),
         ("its need at", in_row(&row.need)),
         ("its d_bytes at", in_row(&row.d_bytes[0])),
+        ("its writes_predicate at", in_row(&row.writes_predicate)),
     ]
 }
 
@@ -131,10 +165,11 @@ fn facts() -> [(&'static str, usize); 12] {
     ]
 }
 
-/// The sets of facts that accept a word of this row, at size 1 and with registers 0: by the engine, and by
-/// the reference too.
+/// The sets of facts that accept a word of this row, at size 1 if the row has a size, and with registers 0: by the
+/// engine, and by the reference too.
 fn sets_of_a_row(row: usize) -> String {
-    let word = reference::TABLE[row].value | 1 << 22;
+    let of = reference::TABLE[row];
+    let word = of.value | 1 << 22 & !of.mask;
     let sets = (0..32).filter(|&byte| {
         let facts = Facts::from_byte(byte);
         let fields = decode(word, facts);

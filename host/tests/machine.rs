@@ -5,16 +5,16 @@
 mod random;
 
 use ghishmadul::{
-    journal_bytes, predicate_bytes, predicate_file_bytes, session_bytes, vector_bytes,
-    vector_file_bytes, Facts, Lanes, Machine, Predicate, Refusal, Register, Row, Size, Vector,
-    LENGTHS, MOST_JOURNAL_BYTES,
+    fresh, journal_bytes, predicate_bytes, predicate_file_bytes, session_bytes, vector_bytes,
+    vector_file_bytes, Facts, JournalVersion, Lanes, Machine, Pattern, Predicate, Refusal,
+    Register, Row, Size, Vector, LENGTHS, MOST_JOURNAL_BYTES,
 };
 use random::Random;
 use reference::Asked;
 
 /// Words of every family, and one that is undefined now and then.
 fn words(random: &mut Random) -> Vec<u32> {
-    const TEXTS: [&str; 10] = [
+    const TEXTS: [&str; 14] = [
         "saddv d3, p1, z2.h",
         "uaddv d2, p0, z3.d",
         "addqv v1.4s, p2, z1.s",
@@ -25,6 +25,10 @@ fn words(random: &mut Random) -> Vec<u32> {
         "ssublt z3.h, z1.b, z3.b",
         "saddwb z2.s, z2.s, z1.h",
         "usubwt z1.d, z3.d, z1.s",
+        "ptrue p1.h, vl3",
+        "ptrue p0.b, all",
+        "ptrue p2.s, mul3",
+        "pfalse p1.b",
     ];
     let many = random.below(40);
     (0..many)
@@ -75,11 +79,14 @@ impl Beside {
         let answer = self.machine.step();
         assert_eq!(
             answer,
-            reference::step(k, facts, &mut self.z, &self.p, &self.program, &mut self.journal)
+            reference::step(k, facts, &mut self.z, &mut self.p, &self.program, &mut self.journal)
         );
         match reference::read_word(&self.program, self.position) {
             Ok(word) => {
-                let line = reference::line(k, facts, &self.z, word.word, self.position, answer);
+                let line = {
+                    let Beside { z, p, position, .. } = self;
+                    reference::line(k, facts, z, p, word.word, *position, answer)
+                };
                 assert_eq!(self.machine.line(self.position, answer), Ok(line));
                 let mut out = [0; 32];
                 let text = reference::text(word.word, facts, &mut out);
@@ -105,7 +112,7 @@ impl Beside {
         let k = self.machine.k();
         let last = self.machine.last_entry().map(|entry| (entry.target, entry.old.to_vec()));
         let answer = self.machine.back();
-        assert_eq!(answer, reference::back(k, &mut self.z, &self.p, &mut self.journal));
+        assert_eq!(answer, reference::back(k, &mut self.z, &mut self.p, &mut self.journal));
         // The last entry is what is restored, and there is one exactly where a step is taken back.
         assert_eq!(answer.is_ok(), last.is_some());
         if let Some((target, old)) = last {
@@ -157,8 +164,12 @@ impl Beside {
         for index in 0..=*position {
             let told = machine.entry(index).map(|entry| {
                 assert_eq!(entry.old, &journal[entry.start..][..entry.old.len()]);
-                let target = entry.target.number();
-                assert_eq!(entry.target, Register::Vector(Vector::ALL[target]));
+                let target = match entry.target {
+                    Register::Vector(vector) => vector.number(),
+                    Register::Predicate(predicate) => 32 + predicate.number(),
+                };
+                let bytes = if target < 32 { vector_bytes } else { predicate_bytes };
+                assert_eq!(entry.old.len(), bytes(machine.k()));
                 reference::Entry { target, start: entry.start, bytes: entry.old.len() }
             });
             assert_eq!(told, reference::read_entry(machine.k(), journal, index));
@@ -298,8 +309,37 @@ fn rows_sizes_and_registers_have_their_numbers() {
     let governing = Predicate::ALL.into_iter().filter(|predicate| predicate.can_govern());
     assert_eq!(governing.collect::<Vec<_>>(), Predicate::ALL[..8]);
     assert_eq!(Size::ALL.map(Size::letter), ['b', 'h', 's', 'd']);
-    let past = [23, 24, 256, usize::MAX].map(Row::try_from);
+    let past = [25, 26, 256, usize::MAX].map(Row::try_from);
     assert_eq!(past, [Err(Refusal::Range); 4]);
+}
+
+/// Every pattern has the reference's name and makes as many lanes active, of whatever number of lanes.
+#[test]
+fn patterns_are_the_references() {
+    for (number, pattern) in Pattern::EVERY.into_iter().enumerate() {
+        assert_eq!((pattern.number(), Pattern::try_from(number)), (number, Ok(pattern)));
+        assert_eq!(pattern.to_string(), reference::pattern_name(number));
+        for count in 0..600 {
+            assert_eq!(pattern.lanes(count), reference::pattern_lanes(number, count));
+        }
+    }
+    assert_eq!([32, 256, usize::MAX].map(Pattern::try_from), [Err(Refusal::Range); 3]);
+    assert_eq!(Pattern::Pow2.lanes(usize::MAX), 1 << (usize::BITS - 1));
+}
+
+/// A version has its number there and back, and its journals say it.
+#[test]
+fn versions_have_their_numbers() {
+    for version in JournalVersion::ALL {
+        assert_eq!(JournalVersion::try_from(version.number()), Ok(version));
+        let mut journal = [0xEE; 8];
+        assert_eq!(fresh(1, version, &mut journal), Ok(()));
+        assert_eq!(u64::from(journal[3]), version.number());
+    }
+    let others = [0, 3, 65_538, u64::MAX].map(JournalVersion::try_from);
+    assert_eq!(others, [Err(Refusal::Journal); 4]);
+    let machine = Machine::new(1, Facts::NONE, &[]).expect("a machine");
+    assert_eq!(machine.journal()[3], 2);
 }
 
 /// Every set of facts is read back from its text, and what is no fact is named.

@@ -1,11 +1,11 @@
-//! The paper's marked cases M1 to M12, and some of the differences and wide sums, by the engine and by
-//! the reference.
+//! The paper's marked cases M1 to M12, some of the differences and wide sums, and predicates that words make, by the
+//! engine and by the reference.
 
 use ghishmadul::{Facts, Refusal};
 
 type Assemble = fn(&[u8], Facts) -> Result<u32, Refusal>;
 type Text = fn(u32, Facts, &mut [u8]) -> Result<usize, Refusal>;
-type Step = fn(usize, Facts, &mut [u8], &[u8], &[u8], &mut [u8]) -> Result<(), Refusal>;
+type Step = fn(usize, Facts, &mut [u8], &mut [u8], &[u8], &mut [u8]) -> Result<(), Refusal>;
 
 /// One step of one word: Z0 and Z1 before it, P0, and Z0 after it. Each pattern fills its register.
 struct Case {
@@ -214,11 +214,14 @@ fn run(side: &str, case: &Case, assemble: Assemble, step: Step) {
 
     let facts = Facts::ALL;
     let program = assemble(case.text.as_bytes(), facts).expect(case.text).to_le_bytes();
-    let mut journal = vec![0; 8 + 1 + bytes];
-    reference::fresh(case.k, &mut journal).expect("a legal length");
-    let answer = step(case.k, facts, &mut z, &p, &program, &mut journal);
-    assert_eq!(answer, Ok(()), "{} {}", side, case.name);
-    assert!(z == after, "{} {}", side, case.name);
+    let predicates = p.clone();
+    for version in [1, 2] {
+        let (mut z, mut journal) = (z.clone(), vec![0; 8 + 1 + bytes]);
+        reference::fresh(case.k, version, &mut journal).expect("a legal length");
+        let answer = step(case.k, facts, &mut z, &mut p, &program, &mut journal);
+        assert_eq!(answer, Ok(()), "{} {}", side, case.name);
+        assert!(z == after && p == predicates, "{} {}", side, case.name);
+    }
 }
 
 fn run_all(cases: &[Case]) {
@@ -237,6 +240,56 @@ fn m1_to_m11() {
 #[test]
 fn differences_and_wide_sums() {
     run_all(&DIFFERENCES_AND_WIDE_SUMS);
+}
+
+/// A word that makes P5, at a length, and the bytes that it leaves there; those after them are zeros.
+type Made = (usize, &'static str, &'static [u8]);
+
+/// Worked out by hand: w bytes to a lane, so bit e * w for lane e; vectors of 16k bytes.
+const MADE: [Made; 20] = [
+    (1, "ptrue p5.b, all", &[0xFF, 0xFF]),
+    (1, "ptrue p5.h, all", &[0x55, 0x55]),
+    (1, "ptrue p5.s, all", &[0x11, 0x11]),
+    (1, "ptrue p5.d, all", &[0x01, 0x01]),
+    (1, "ptrue p5.b, pow2", &[0xFF, 0xFF]),
+    (1, "ptrue p5.b, vl3", &[0x07]),
+    (1, "ptrue p5.h, vl5", &[0x55, 0x01]),
+    (1, "ptrue p5.b, vl16", &[0xFF, 0xFF]),
+    (1, "ptrue p5.h, vl16", &[]),
+    (2, "ptrue p5.h, vl16", &[0x55, 0x55, 0x55, 0x55]),
+    (1, "ptrue p5.d, vl3", &[]),
+    (2, "ptrue p5.d, vl3", &[0x01, 0x01, 0x01]),
+    (1, "ptrue p5.b, mul3", &[0xFF, 0x7F]),
+    (1, "ptrue p5.h, mul3", &[0x55, 0x05]),
+    (1, "ptrue p5.d, mul3", &[]),
+    (1, "ptrue p5.s, mul4", &[0x11, 0x11]),
+    (1, "ptrue p5.d, mul4", &[]),
+    (16, "ptrue p5.b, vl256", &[0xFF; 32]),
+    (16, "ptrue p5.b, #14", &[]),
+    (4, "pfalse p5.b", &[]),
+];
+
+fn make((k, text, low): Made, assemble: Assemble, step: Step) {
+    let (mut z, mut p, mut journal) =
+        (vec![0xEE; 512 * k], vec![0xDD; 32 * k], vec![0; 9 + 16 * k]);
+    let (vectors, mut predicates, mut entry) = (z.clone(), p.clone(), vec![0; 16 * k]);
+    let program = assemble(text.as_bytes(), Facts::SVE).expect(text).to_le_bytes();
+    reference::fresh(k, 2, &mut journal).expect("a legal length");
+    assert_eq!(step(k, Facts::SVE, &mut z, &mut p, &program, &mut journal), Ok(()), "{}", text);
+    predicates[5 * 2 * k..][..2 * k].fill(0);
+    predicates[5 * 2 * k..][..low.len()].copy_from_slice(low);
+    entry[..2 * k].fill(0xDD);
+    assert!(z == vectors && p == predicates, "{} at k = {}", text, k);
+    assert_eq!(journal[..9], [b'L', b'N', b'J', 2, 0, k as u8, 1, 0, 32 + 5]);
+    assert_eq!(journal[9..], entry);
+}
+
+#[test]
+fn made_predicates() {
+    for made in MADE {
+        make(made, |text, facts| Ok(ghishmadul::assemble(text, facts)?), ghishmadul::step);
+        make(made, reference::assemble, reference::step);
+    }
 }
 
 #[test]

@@ -31,11 +31,11 @@ fn families_prints_the_references_lines() {
     let mut lines = String::new();
     for k in LENGTHS {
         for word in WORDS {
-            let (mut z, p) = files(k);
+            let (mut z, mut p) = files(k);
             let mut journal = vec![0; 8 + 1 + 16 * k];
-            fresh(k, &mut journal).expect("a legal length");
-            let answer = step(k, Facts::ALL, &mut z, &p, &word.to_le_bytes(), &mut journal);
-            lines += &line(k, Facts::ALL, &z, word, 0, answer);
+            fresh(k, 2, &mut journal).expect("a legal length");
+            let answer = step(k, Facts::ALL, &mut z, &mut p, &word.to_le_bytes(), &mut journal);
+            lines += &line(k, Facts::ALL, &z, &p, word, 0, answer);
         }
     }
     assert_eq!(lines, include_str!("../../crates/families/stdout"));
@@ -58,15 +58,16 @@ fn trials_prints_the_references_counts() {
     let mut lines = String::new();
     for (k, byte, room) in runs() {
         let facts = Facts::from_byte(byte);
-        let (mut z, p) = files(k);
+        let (mut z, mut p) = files(k);
         let mut journal = vec![0; room];
-        fresh(k, &mut journal).expect("a legal length and room");
+        fresh(k, 2, &mut journal).expect("a legal length and room");
         let (mut forward, mut backward) = (0, 0);
         for direction in filled(1200, 9, 3) {
             if direction == 0 {
-                backward += u32::from(back(k, &mut z, &p, &mut journal).is_ok());
+                backward += u32::from(back(k, &mut z, &mut p, &mut journal).is_ok());
             } else {
-                forward += u32::from(step(k, facts, &mut z, &p, &program, &mut journal).is_ok());
+                forward +=
+                    u32::from(step(k, facts, &mut z, &mut p, &program, &mut journal).is_ok());
             }
         }
         lines += &format!("{} {} {} {} {} same\n", k, byte, room, forward, backward);

@@ -10,7 +10,7 @@
 #include <string.h>
 #include <ucontext.h>
 
-#define ROWS 23
+#define ROWS LN_ROWS
 #define TURNS 16
 #define PAINTED 65536
 
@@ -18,7 +18,8 @@ static const size_t lengths[] = LN_LENGTHS;
 static const uint32_t values[ROWS] = {
     0x04002000, 0x04012000, 0x04052000, 0x0E303800, 0x2E303800, 0x4404A000, 0x4405A000, 0x45000000,
     0x45000400, 0x45000800, 0x45000C00, 0x45001000, 0x45001400, 0x45001800, 0x45001C00, 0x45004000,
-    0x45004400, 0x45004800, 0x45004C00, 0x45005000, 0x45005400, 0x45005800, 0x45005C00};
+    0x45004400, 0x45004800, 0x45004C00, 0x45005000, 0x45005400, 0x45005800, 0x45005C00, 0x2518E000,
+    0x2518E400};
 
 /* What is lent to a step. */
 static size_t k;
@@ -30,10 +31,10 @@ static uint8_t painted[PAINTED];
 static ucontext_t here, there;
 static uint64_t number;
 
-typedef uint64_t step_of(size_t, uint8_t, uint8_t *, size_t, const uint8_t *, size_t, const uint8_t *, size_t, uint8_t *, size_t);
+typedef uint64_t step_of(size_t, uint8_t, uint8_t *, size_t, uint8_t *, size_t, const uint8_t *, size_t, uint8_t *, size_t);
 
 /* A step that takes nothing but its return address. */
-static uint64_t nothing(size_t length, uint8_t facts, uint8_t *vectors, size_t vectors_len, const uint8_t *predicates,
+static uint64_t nothing(size_t length, uint8_t facts, uint8_t *vectors, size_t vectors_len, uint8_t *predicates,
                         size_t predicates_len, const uint8_t *words, size_t words_len, uint8_t *entries,
                         size_t entries_len)
 {
@@ -56,7 +57,7 @@ static size_t untouched(step_of *which, uint8_t paint)
     size_t at = 0;
 
     step = which;
-    ln_fresh(k, journal, sizeof journal);
+    ln_fresh(k, LN_JOURNAL_VERSION, journal, sizeof journal);
     memset(painted, paint, sizeof painted);
     getcontext(&there);
     there.uc_stack.ss_sp = painted;
@@ -89,13 +90,19 @@ static size_t taken(uint32_t word)
 }
 
 /* The word of a row in one of its turns: every size, with Q and without where the row has it, and with the destination
- * among the sources and not. After the last row come words that no row has. */
+ * among the sources and not; of those that make a predicate some patterns, and every register. After the last row come
+ * words that no row has. */
 static uint32_t word_of(size_t row, uint32_t turn)
 {
+    static const uint32_t patterns[] = {LN_ALL, LN_POW2, LN_MUL3, LN_VL16};
     uint32_t size = turn & 3, q = turn >> 2 & 1, destination = turn >> 3 & 1, word = size << 22 | 1u << 5 | destination;
 
     if (row == ROWS) {
         return word;
+    }
+    if (row == LN_PTRUE || row == LN_PFALSE) {
+        word = row == LN_PTRUE ? size << 22 | patterns[turn >> 2] << 5 : 0;
+        return values[row] | word | turn;
     }
     if (row == LN_SADDLV || row == LN_UADDLV) {
         word |= q << 30;

@@ -35,12 +35,14 @@ fn the_step_for_speed_agrees() {
         inputs::journal(&mut random, k, program.len() / 4, &mut journal);
         let position = reference::position(k, &journal);
         let next = position.and_then(|position| reference::read_word(&program, position));
-        let (mut other_z, mut other_journal) = (z.clone(), journal.clone());
+        let (mut other_z, mut other_p, mut other_journal) = (z.clone(), p.clone(), journal.clone());
         let facts = reference::facts_of(inputs::facts(&mut random));
-        let answer = typed::step(k, facts, &mut z, &p, &program, &mut journal);
-        let other = reference::step(k, facts, &mut other_z, &p, &program, &mut other_journal);
+        let answer = typed::step(k, facts, &mut z, &mut p, &program, &mut journal);
+        let other =
+            reference::step(k, facts, &mut other_z, &mut other_p, &program, &mut other_journal);
         assert_eq!(answer, other);
-        assert!(z == other_z && journal == other_journal, "k {}, {:02x?}", k, &journal[..8]);
+        let same = z == other_z && p == other_p && journal == other_journal;
+        assert!(same, "k {}, {:02x?}", k, &journal[..8]);
         if let (Ok(next), Ok(()) | Err(Refusal::Undefined)) = (next, other) {
             if other.is_ok() || reference::decode(next.word, Facts::ALL).is_err() {
                 reached.count(next.word);

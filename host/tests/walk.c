@@ -1,5 +1,5 @@
 /* Walks the paper's session in C, over include/ln.h, and prints a line for each step: the session of the
- * former version, the same with all facts, and with none. */
+ * former version, the same with all facts, and with none; then one that makes its predicates itself. */
 #include "ln.h"
 
 #include <stdio.h>
@@ -14,10 +14,13 @@
 static uint8_t session[LN_SESSION_HEADER_BYTES + PARTS];
 static uint8_t journal[LN_MOST_JOURNAL_BYTES];
 
+/* The paper's words; and ptrue p1.h, vl3, then saddv d0, p1, z1.h, pfalse p1.b and the sum again. */
+static const uint32_t paper[WORDS] = {0x04002020, 0x2E303822, 0x45410023, 0x04C02020};
+static const uint32_t made[WORDS] = {0x2558E061, 0x04402420, 0x2518E401, 0x04402420};
+
 /* k = 1, Z1 bytes 1 to 16 in order, P0 bytes FF FF, all else zero, four words. */
-static void make_parts(uint8_t *vectors)
+static void make_parts(uint8_t *vectors, const uint32_t *words)
 {
-    static const uint32_t words[WORDS] = {0x04002020, 0x2E303822, 0x45410023, 0x04C02020};
     uint8_t *predicates = vectors + LN_VECTOR_FILE_BYTES(K);
     uint8_t *program = predicates + LN_PREDICATE_FILE_BYTES(K);
     size_t at, byte;
@@ -41,17 +44,17 @@ static size_t make_former_session(void)
     const uint8_t header[] = {'L', 'N', 'W', LN_FORMER_SESSION_VERSION, 0, K, WORDS, 0};
 
     memcpy(session, header, LN_FORMER_SESSION_HEADER_BYTES);
-    make_parts(session + LN_FORMER_SESSION_HEADER_BYTES);
+    make_parts(session + LN_FORMER_SESSION_HEADER_BYTES, paper);
     return LN_FORMER_SESSION_HEADER_BYTES + PARTS;
 }
 
-/* The session with these facts; its bytes. */
-static size_t make_session(uint8_t facts)
+/* The session with these facts and words; its bytes. */
+static size_t make_session(uint8_t facts, const uint32_t *words)
 {
     const uint8_t header[] = {'L', 'N', 'W', LN_SESSION_VERSION, 0, K, WORDS, 0, facts};
 
     memcpy(session, header, LN_SESSION_HEADER_BYTES);
-    make_parts(session + LN_SESSION_HEADER_BYTES);
+    make_parts(session + LN_SESSION_HEADER_BYTES, words);
     return LN_SESSION_HEADER_BYTES + PARTS;
 }
 
@@ -72,7 +75,7 @@ static void walk(size_t bytes)
     z_bytes = LN_VECTOR_FILE_BYTES(parts.k);
     p_bytes = LN_PREDICATE_FILE_BYTES(parts.k);
     program_bytes = LN_WORD_BYTES * parts.count;
-    ln_fresh(parts.k, journal, sizeof journal);
+    ln_fresh(parts.k, LN_JOURNAL_VERSION, journal, sizeof journal);
 
     for (;;) {
         size_t position = (size_t)ln_position(parts.k, journal, sizeof journal).value;
@@ -91,12 +94,15 @@ static void walk(size_t bytes)
             uint8_t text[LN_LEAST_TEXT_OUT];
             struct ln_answer length = ln_text((uint32_t)next.word, facts, text, sizeof text);
             struct ln_fields fields = ln_decode((uint32_t)next.word, facts);
-            struct ln_place place = ln_register_place(parts.k, z, z_bytes, p, p_bytes, 0, fields.d);
+            uint64_t predicate = ln_read_row((size_t)fields.row).writes_predicate;
+            struct ln_place place =
+                ln_register_place(parts.k, z, z_bytes, p, p_bytes, predicate, (size_t)fields.d);
+            const uint8_t *file = place.predicate ? p : z;
             size_t byte;
 
             printf("%.*s ", (int)length.value, (const char *)text);
             for (byte = place.bytes; byte > 0; byte--) {
-                printf("%02x", z[place.start + byte - 1]);
+                printf("%02x", file[place.start + byte - 1]);
             }
             printf("\n");
         }
@@ -106,10 +112,12 @@ static void walk(size_t bytes)
 int main(void)
 {
     walk(make_former_session());
-    walk(make_session(LN_ALL_FACTS));
-    walk(make_session(0));
+    walk(make_session(LN_ALL_FACTS, paper));
+    walk(make_session(0, paper));
     /* A higher bit, and a byte too few. */
-    walk(make_session(LN_ALL_FACTS + 1));
-    walk(make_session(LN_ALL_FACTS) - 1);
+    walk(make_session(LN_ALL_FACTS + 1, paper));
+    walk(make_session(LN_ALL_FACTS, paper) - 1);
+    walk(make_session(LN_SVE, made));
+    walk(make_session(LN_SVE2, made));
     return 0;
 }

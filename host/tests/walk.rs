@@ -1,4 +1,5 @@
-//! The paper's session walked, by the engine and by the reference: of the former version, and with facts.
+//! The paper's session walked, by the engine and by the reference: of the former version, and with facts; and one that
+//! makes its predicate itself.
 
 use ghishmadul::{Facts, Machine, Refusal};
 
@@ -62,6 +63,28 @@ fn a_core_that_lacks_a_fact_stops_at_its_word() {
         assert_eq!((machine.walk(), machine.position()), (lines.clone(), steps));
         assert_eq!(reference::walk(&with_facts(facts)), lines);
     }
+}
+
+/// From a predicate file of zeros: all lanes, their sum, none of them, and the sum of none. Z1 has the bytes 1 to 16.
+#[test]
+fn a_session_makes_its_own_predicates() {
+    let mut session = vec![b'L', b'N', b'W', 2, 0, 1, 4, 0, Facts::SVE.byte()];
+    session.resize(9 + 16, 0);
+    session.extend(1..=16);
+    session.resize(9 + 544, 0);
+    for text in ["ptrue p0.b, all", "saddv d0, p0, z1.b", "pfalse p0.b", "saddv d0, p0, z1.b"] {
+        let word = ghishmadul::assemble(text, Facts::SVE).expect("an accepted text");
+        session.extend(word.to_le_bytes());
+    }
+    let lines = "0 0 ptrue p0.b, all ffff\n\
+                 1 0 saddv d0, p0, z1.b 00000000000000000000000000000088\n\
+                 2 0 pfalse p0.b 0000\n\
+                 3 0 saddv d0, p0, z1.b 00000000000000000000000000000000\n";
+    let mut machine = Machine::from_session(&session).expect("a session");
+    assert_eq!(machine.walk(), lines);
+    assert_eq!(reference::walk(&session), lines);
+    machine.reset();
+    assert_eq!(machine.session(), session);
 }
 
 #[test]

@@ -20,12 +20,16 @@ use std::time::Duration;
 
 const JOURNAL: usize = 65_536;
 
+/// The version of the journals.
+const VERSION: u64 = 2;
+
 /// The facts that every call is timed under.
 const FACTS: Facts = Facts::ALL;
 
 /// Words of each family and width: the name here, and the word, its registers being 0. Of the widening
-/// family there are sums and differences, long and wide, of both signs and both halves.
-const WORDS: [(&str, u32); 26] = [
+/// family there are sums and differences, long and wide, of both signs and both halves; of those that make a
+/// predicate some patterns.
+const WORDS: [(&str, u32); 32] = [
     ("saddv .b", 0x0400_2000),
     ("saddv .h", 0x0440_2000),
     ("saddv .s", 0x0480_2000),
@@ -52,6 +56,12 @@ const WORDS: [(&str, u32); 26] = [
     ("usubwt .h", 0x4540_5C00),
     ("usubwt .s", 0x4580_5C00),
     ("usubwt .d", 0x45C0_5C00),
+    ("ptrue .b all", 0x2518_E3E0),
+    ("ptrue .h all", 0x2558_E3E0),
+    ("ptrue .s mul3", 0x2598_E3C0),
+    ("ptrue .d pow2", 0x25D8_E000),
+    ("ptrue .d vl8", 0x25D8_E100),
+    ("pfalse .b", 0x2518_E400),
 ];
 
 /// A side with a step.
@@ -60,7 +70,7 @@ trait Steps {
         k: usize,
         facts: Facts,
         z: &mut [u8],
-        p: &[u8],
+        p: &mut [u8],
         program: &[u8],
         journal: &mut [u8],
     ) -> Result<(), Refusal>;
@@ -80,7 +90,7 @@ trait Sums {
 
 /// A side with all calls that are timed.
 trait Calls: Steps + Sums {
-    fn back(k: usize, z: &mut [u8], p: &[u8], journal: &mut [u8]) -> Result<(), Refusal>;
+    fn back(k: usize, z: &mut [u8], p: &mut [u8], journal: &mut [u8]) -> Result<(), Refusal>;
     fn text(word: u32, facts: Facts, out: &mut [u8]) -> Result<usize, Refusal>;
     fn assemble(text: &[u8], facts: Facts) -> Result<u32, Refusal>;
     fn place(k: usize, z: &[u8], p: &[u8], register: Register) -> Result<usize, Refusal>;
@@ -101,7 +111,7 @@ macro_rules! steps {
                 k: usize,
                 facts: Facts,
                 z: &mut [u8],
-                p: &[u8],
+                p: &mut [u8],
                 program: &[u8],
                 journal: &mut [u8],
             ) -> Result<(), Refusal> {
@@ -147,7 +157,7 @@ impl Sums for Engine {
 }
 
 impl Calls for Engine {
-    fn back(k: usize, z: &mut [u8], p: &[u8], journal: &mut [u8]) -> Result<(), Refusal> {
+    fn back(k: usize, z: &mut [u8], p: &mut [u8], journal: &mut [u8]) -> Result<(), Refusal> {
         ghishmadul::back(k, z, p, journal)
     }
 
@@ -178,7 +188,7 @@ steps!(Plain, reference);
 sums!(Plain, split);
 
 impl Calls for Plain {
-    fn back(k: usize, z: &mut [u8], p: &[u8], journal: &mut [u8]) -> Result<(), Refusal> {
+    fn back(k: usize, z: &mut [u8], p: &mut [u8], journal: &mut [u8]) -> Result<(), Refusal> {
         reference::back(k, z, p, journal)
     }
 
@@ -248,7 +258,7 @@ impl State {
         };
         random.fill(&mut state.z);
         random.fill(&mut state.p);
-        reference::fresh(k, &mut state.journal).expect("a legal length");
+        reference::fresh(k, VERSION, &mut state.journal).expect("a legal length");
         state.set_count(count);
         state
     }
@@ -365,13 +375,17 @@ fn word_of(row: &Row, random: &mut Random) -> u32 {
     }
 }
 
-/// The same word with other registers: Z0 the destination, the sources and the predicate by turns.
+/// The same word with other registers: Z0 the destination, the sources and the predicate by turns; or the predicate
+/// that it makes.
 fn with_registers(word: u32) -> Vec<u32> {
     let row = TABLE[reference::decode(word, FACTS).expect("an accepted word").row];
     (0..64)
         .map(|turn| {
             let (n, m, g) = (1 + turn % 31, 1 + (turn + 7) % 31, turn % 8);
-            word | (m << 16 | g << 10 | n << 5) & !row.mask
+            match row.writes_predicate() {
+                true => word | (turn % 16),
+                false => word | (m << 16 | g << 10 | n << 5) & !row.mask,
+            }
         })
         .collect()
 }
@@ -515,7 +529,7 @@ fn time_calls(timer: &Timer) {
 fn time_words(timer: &Timer) {
     println!("\na step of one word, journal empty, beside plain Rust and beside a step written for speed");
     println!(
-        "{:12}{:>4}{:>12}{:>12}{:>8}{:>12}{:>8}",
+        "{:14}{:>4}{:>12}{:>12}{:>8}{:>12}{:>8}",
         "word", "k", "engine ns", "plain ns", "ratio", "by hand ns", "ratio"
     );
     let (mut segments, mut others) = (Slowest::default(), Slowest::default());
@@ -526,7 +540,7 @@ fn time_words(timer: &Timer) {
                 [State::step::<Engine>, State::step::<Plain>, State::step::<ByHand>];
             let [engine, plain, by_hand] = timer.time(&mut state, sides, 0);
             println!(
-                "{:12}{:>4}{:>12.0}{:>12.0}{:>8.2}{:>12.0}{:>8.2}",
+                "{:14}{:>4}{:>12.0}{:>12.0}{:>8.2}{:>12.0}{:>8.2}",
                 name,
                 k,
                 engine,

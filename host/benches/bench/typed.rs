@@ -173,6 +173,40 @@ fn made_of_two<W: Wide, const WIDE: bool, const SUBTRACT: bool, const TOP: bool>
     }
 }
 
+/// ptrue with this many lanes, and with none pfalse: eight bits at a time, whole bytes of them alike. The entry keeps
+/// what stood there, and zeros after it.
+fn made(register: &mut [u8], entry: &mut [u8], size: u32, lanes: usize) {
+    let (old, padding) = entry.split_at_mut(register.len());
+    old.copy_from_slice(register);
+    padding.fill(0);
+    let bits = lanes << size;
+    let every = [0xFF, 0x55, 0x11, 0x01][size as usize];
+    let (whole, rest) = register.split_at_mut(bits / 8);
+    whole.fill(every);
+    rest.fill(0);
+    if let Some(last) = rest.first_mut() {
+        *last = every & !(0xFF << (bits % 8));
+    }
+}
+
+/// How many lanes a pattern of ptrue makes active.
+fn pattern_lanes(pattern: usize, count: usize) -> usize {
+    let fixed = match pattern {
+        0 => return 1 << (usize::BITS - 1 - count.leading_zeros()),
+        1..=8 => pattern,
+        9..=13 => 1 << (pattern - 5),
+        29 => return count & !3,
+        30 => return count - count % 3,
+        31 => return count,
+        _ => return 0,
+    };
+    if fixed > count {
+        0
+    } else {
+        fixed
+    }
+}
+
 /// What a word is of.
 #[derive(Clone, Copy)]
 enum Form {
@@ -181,6 +215,8 @@ enum Form {
     LongAcross { signed: bool },
     Pairs { signed: bool },
     Widening { signed: bool, form: Widening },
+    Made,
+    Cleared,
 }
 
 /// The word's form, and its size if that is allowed on a core with these facts.
@@ -201,6 +237,8 @@ fn decode(word: u32, facts: Facts) -> Result<(Form, u32), Refusal> {
                 let form = Widening { wide: bit(14), subtract: bit(12), top: bit(10) };
                 Form::Widening { signed: !bit(11), form }
             }
+            _ if word & 0xFF3F_FC10 == 0x2518_E000 => Form::Made,
+            _ if word & 0xFFFF_FFF0 == 0x2518_E400 => Form::Cleared,
             _ => return Err(Refusal::Unknown),
         },
     };
@@ -209,6 +247,7 @@ fn decode(word: u32, facts: Facts) -> Result<(Form, u32), Refusal> {
         Form::Segments => facts.sve2p1 || facts.sme2p1,
         Form::LongAcross { .. } => size < 2 || (size == 2 && word >> 30 & 1 == 1),
         Form::Pairs { .. } | Form::Widening { .. } => size > 0 && (facts.sve2 || facts.sme),
+        Form::Made | Form::Cleared => facts.sve || facts.sme,
     };
     if allowed {
         Ok((form, size))
@@ -222,7 +261,7 @@ pub fn step(
     k: usize,
     facts: Facts,
     z: &mut [u8],
-    p: &[u8],
+    p: &mut [u8],
     program: &[u8],
     journal: &mut [u8],
 ) -> Result<(), Refusal> {
@@ -242,21 +281,38 @@ pub fn step(
     let (header, entries) = journal.split_at_mut(8);
     let count = usize::from(u16::from_le_bytes([header[6], header[7]]));
     let entry = 1 + bytes;
-    let well_formed = header[..6] == [b'L', b'N', b'J', 1, 0, k as u8]
+    let version = header[3];
+    let numbers = if version == 1 { 32 } else { 48 };
+    let well_formed = header[..6] == [b'L', b'N', b'J', version, 0, k as u8]
+        && (version == 1 || version == 2)
         && count <= 256
         && count * entry <= entries.len()
-        && entries[..count * entry].chunks_exact(entry).all(|entry| entry[0] < 32);
+        && entries[..count * entry].chunks_exact(entry).all(|entry| entry[0] < numbers);
     if !well_formed {
         return Err(Refusal::Journal);
     }
     let word = program.get(4 * count..4 * count + 4).ok_or(Refusal::End)?;
     let word = u32::from_le_bytes(word.try_into().expect("four bytes"));
     let (form, size) = decode(word, facts)?;
+    let makes_predicate = matches!(form, Form::Made | Form::Cleared);
+    if makes_predicate && version == 1 {
+        return Err(Refusal::Journal);
+    }
     let entry = entries.get_mut(count * entry..(count + 1) * entry).ok_or(Refusal::Full)?;
 
     // The entry keeps the destination's old bytes: a source that is the destination is read there.
     let field = |low: u32, most: u32| (word >> low & most) as usize;
     let (d, n, m, g) = (field(0, 31), field(5, 31), field(16, 31), field(10, 7));
+    if makes_predicate {
+        header[6..].copy_from_slice(&(count as u16 + 1).to_le_bytes());
+        let lanes = match form {
+            Form::Made => pattern_lanes(n, bytes >> size),
+            _ => 0,
+        };
+        entry[0] = 32 + d as u8;
+        made(&mut p[2 * k * d..][..2 * k], &mut entry[1..], size, lanes);
+        return Ok(());
+    }
     let (low, rest) = z.split_at_mut(d * bytes);
     let (destination, high) = rest.split_at_mut(bytes);
     let (number, old) = entry.split_first_mut().expect("an entry has a number");
@@ -306,6 +362,7 @@ pub fn step(
                 (false, _) => widening::<u64>(to, source, second, form),
             }
         }
+        (Form::Made | Form::Cleared, _) => unreachable!("a word that writes a vector"),
     }
     Ok(())
 }

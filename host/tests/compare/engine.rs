@@ -2,15 +2,20 @@
 //! and the reference's answers in the same way.
 
 use ghishmadul::boundary::*;
-use ghishmadul::{Facts, Kind, Lanes, Predicate, Refusal, Register, Size, Vector};
+use ghishmadul::{
+    Facts, JournalVersion, Kind, Lanes, Pattern, Predicate, Refusal, Register, Size, Vector,
+};
 use reference::Asked;
 use std::ops::Range;
 
 /// The answer number, then the values; zeros after them.
-pub type Numbers = [u64; 19];
+pub type Numbers = [u64; MOST];
+
+/// Of a row's answer, the longest.
+const MOST: usize = 22;
 
 fn all<const MANY: usize>(given: [u64; MANY]) -> Numbers {
-    let mut numbers = [0; 19];
+    let mut numbers = [0; MOST];
     numbers[..MANY].copy_from_slice(&given);
     numbers
 }
@@ -46,15 +51,16 @@ impl Values for usize {
 
 impl Values for reference::Fields {
     fn values(&self) -> Numbers {
-        let reference::Fields { row, size, n, d, g, m, q } = *self;
-        all([0, row as u64, size as u64, n as u64, d as u64, g as u64, m as u64, q as u64])
+        let reference::Fields { row, size, n, d, g, m, q, pattern } = *self;
+        let fields = [0, row, size, n, d, g, m, q, pattern];
+        all(fields.map(|number| number as u64))
     }
 }
 
 impl Values for ghishmadul::Fields {
     /// A field that is there and should not be, or is not and should, has a number that none has.
     fn values(&self) -> Numbers {
-        let ghishmadul::Fields { row, size, n, d, g, m, q } = *self;
+        let ghishmadul::Fields { row, size, n, d, g, m, q, pattern } = *self;
         let about = reference::read_row(row.number()).expect("a row");
         let field = |number: Option<usize>, there: bool| match number {
             _ if number.is_some() != there => usize::MAX,
@@ -63,11 +69,15 @@ impl Values for ghishmadul::Fields {
         reference::Fields {
             row: row.number(),
             size: size.number(),
-            n: n.number(),
-            d: d.number(),
+            n: field(n.map(Vector::number), about.has_n),
+            d: match (d.kind() == Kind::Predicate) == about.writes_predicate {
+                true => d.number(),
+                false => usize::MAX,
+            },
             g: field(g.map(Predicate::number), about.has_g),
             m: field(m.map(Vector::number), about.has_m),
             q: field(q.map(usize::from), about.has_q),
+            pattern: field(pattern.map(Pattern::number), about.has_pattern),
         }
         .values()
     }
@@ -99,16 +109,19 @@ impl Values for reference::About {
         let reference::About { signed, has_g, has_m, has_q, reads_destination, .. } = *self;
         let flags = [signed, has_g, has_m, has_q, reads_destination].map(u64::from);
         let bytes = [self.n_bytes, self.m_bytes, self.d_bytes];
-        about(flags, self.need.into(), bytes.map(|widths| widths.map(|bytes| bytes as u64)))
+        let widths = bytes.map(|widths| widths.map(|bytes| bytes as u64));
+        let last = [self.has_n, self.has_pattern, self.writes_predicate].map(u64::from);
+        about(flags, self.need.into(), widths, last)
     }
 }
 
-/// A row's flags, its need and its widths after each other.
-fn about(flags: [u64; 5], need: u64, widths: [[u64; 4]; 3]) -> Numbers {
-    let mut numbers = [0; 19];
+/// A row's flags, its need, its widths and its last flags after each other.
+fn about(flags: [u64; 5], need: u64, widths: [[u64; 4]; 3], last: [u64; 3]) -> Numbers {
+    let mut numbers = [0; MOST];
     numbers[1..6].copy_from_slice(&flags);
     numbers[6] = need;
-    numbers[7..].copy_from_slice(&widths.concat());
+    numbers[7..19].copy_from_slice(&widths.concat());
+    numbers[19..].copy_from_slice(&last);
     numbers
 }
 
@@ -122,10 +135,11 @@ impl Values for ghishmadul::About {
             flags,
             need.byte().into(),
             [
-                widths.map(|widths| bytes(widths.map(|widths| widths.n))),
+                widths.map(|widths| bytes(widths.and_then(|widths| widths.n))),
                 widths.map(|widths| bytes(widths.and_then(|widths| widths.m))),
                 widths.map(|widths| bytes(widths.map(|widths| widths.d))),
             ],
+            [self.has_n, self.has_pattern, self.writes_predicate].map(u64::from),
         )
     }
 }
@@ -200,8 +214,9 @@ impl Way {
         if self == Way::Safe {
             return numbers(ghishmadul::decode(word, Facts::from_byte(facts)));
         }
-        let Fields { number, row, size, n, d, g, m, q } = unsafe { ln_decode(word, facts) };
-        all([number, row, size, n, d, g, m, q])
+        let Fields { number, row, size, n, d, g, m, q, pattern } =
+            unsafe { ln_decode(word, facts) };
+        all([number, row, size, n, d, g, m, q, pattern])
     }
 
     pub fn text(self, word: u32, facts: u8, out: &mut [u8]) -> Numbers {
@@ -219,11 +234,12 @@ impl Way {
         answer(unsafe { ln_assemble(self.of(text), text.len(), facts) })
     }
 
-    pub fn fresh(self, k: usize, journal: &mut [u8]) -> Numbers {
-        if self == Way::Safe {
-            return numbers(ghishmadul::fresh(k, journal));
+    /// `version`: any number.
+    pub fn fresh(self, k: usize, version: u64, journal: &mut [u8]) -> Numbers {
+        if let (Way::Safe, Ok(version)) = (self, JournalVersion::try_from(version)) {
+            return numbers(ghishmadul::fresh(k, version, journal));
         }
-        number(unsafe { ln_fresh(k, self.of_mut(journal), journal.len()) })
+        number(unsafe { ln_fresh(k, version, self.of_mut(journal), journal.len()) })
     }
 
     pub fn step(
@@ -231,7 +247,7 @@ impl Way {
         k: usize,
         facts: u8,
         z: &mut [u8],
-        p: &[u8],
+        p: &mut [u8],
         program: &[u8],
         journal: &mut [u8],
     ) -> Numbers {
@@ -245,7 +261,7 @@ impl Way {
                 facts,
                 self.of_mut(z),
                 z.len(),
-                self.of(p),
+                self.of_mut(p),
                 p.len(),
                 self.of(program),
                 program.len(),
@@ -255,7 +271,7 @@ impl Way {
         })
     }
 
-    pub fn back(self, k: usize, z: &mut [u8], p: &[u8], journal: &mut [u8]) -> Numbers {
+    pub fn back(self, k: usize, z: &mut [u8], p: &mut [u8], journal: &mut [u8]) -> Numbers {
         if self == Way::Safe {
             return numbers(ghishmadul::back(k, z, p, journal));
         }
@@ -264,7 +280,7 @@ impl Way {
                 k,
                 self.of_mut(z),
                 z.len(),
-                self.of(p),
+                self.of_mut(p),
                 p.len(),
                 self.of_mut(journal),
                 journal.len(),
@@ -284,7 +300,7 @@ impl Way {
             return numbers(ghishmadul::read_entry(k, journal, index).map(|entry| {
                 let target = match entry.target {
                     Register::Vector(vector) => vector.number(),
-                    Register::Predicate(_) => panic!("a predicate in an entry"),
+                    Register::Predicate(predicate) => 32 + predicate.number(),
                 };
                 let bytes = entry.old.len();
                 assert_eq!(entry.old.as_ptr(), journal[entry.start..].as_ptr(), "not a copy");
@@ -356,7 +372,8 @@ impl Way {
         let told = unsafe { ln_read_row(row) };
         let About { is_signed, has_g, has_m, has_q, reads_destination, need, .. } = told;
         let flags = [is_signed, has_g, has_m, has_q, reads_destination];
-        let mut numbers = about(flags, need, [told.n_bytes, told.m_bytes, told.d_bytes]);
+        let last = [told.has_n, told.has_pattern, told.writes_predicate];
+        let mut numbers = about(flags, need, [told.n_bytes, told.m_bytes, told.d_bytes], last);
         numbers[0] = told.number;
         numbers
     }

@@ -9,15 +9,23 @@ const LETTERS: [&str; 5] = ["b", "h", "s", "d", "q"];
 const LONG: usize = 10_000;
 const MOST_JOURNAL: usize = 65_536;
 
-/// A word: mostly of a row, whatever its size, and then often with its destination among its sources;
-/// sometimes with a bit turned; sometimes noise.
+/// Versions of a journal at the ends: those that there are, those beside them, and those that are right in their
+/// low bits.
+pub const VERSIONS: [u64; 10] =
+    [0, 1, 2, 3, (1 << 16) + 1, (1 << 16) + 2, (1 << 32) + 1, (1 << 32) + 2, 1 << 63, u64::MAX];
+
+/// A word: mostly of a row, whatever its size, often one that makes a predicate, else often with its destination
+/// among its sources; sometimes with a bit turned; sometimes noise.
 pub fn word(random: &mut Random) -> u32 {
-    let row = random.pick(&TABLE);
+    let row = match random.below(8) {
+        0 => random.pick(&TABLE[TABLE.len() - 2..]),
+        _ => random.pick(&TABLE),
+    };
     let word = row.value | random.word() & !row.mask;
     match random.below(10) {
         0 => random.word(),
         1 => word ^ 1 << random.below(32),
-        2..=4 => with_destination_read(random, &row, word),
+        2..=4 if !row.writes_predicate() => with_destination_read(random, &row, word),
         _ => word,
     }
 }
@@ -54,6 +62,17 @@ pub fn accepted_word(random: &mut Random, facts: Facts) -> u32 {
     loop {
         let word = word(random);
         if reference::decode(word, facts).is_ok() {
+            return word;
+        }
+    }
+}
+
+/// An accepted word that writes a vector.
+pub fn vector_word(random: &mut Random, facts: Facts) -> u32 {
+    loop {
+        let word = accepted_word(random, facts);
+        let row = TABLE.iter().find(|row| row.matches(word)).expect("a word of a row");
+        if !row.writes_predicate() {
             return word;
         }
     }
@@ -211,10 +230,9 @@ pub fn journal(random: &mut Random, k: usize, words: usize, journal: &mut Vec<u8
         random.fill(&mut journal[taken..]);
     }
     random.fill(&mut journal[8..taken]);
-    for number in journal[8..taken].iter_mut().step_by(entry) {
-        *number &= 31;
-    }
-    journal[..5].copy_from_slice(b"LNJ\x01\x00");
+    let version = random.pick(&[1, 2, 2]);
+    entry_numbers(random, version, journal[8..taken].iter_mut().step_by(entry).collect());
+    journal[..5].copy_from_slice(&[b'L', b'N', b'J', version, 0]);
     journal[5] = like as u8;
     journal[6..8].copy_from_slice(&(count as u16).to_le_bytes());
 
@@ -234,7 +252,7 @@ pub fn journal(random: &mut Random, k: usize, words: usize, journal: &mut Vec<u8
         }
         3 | 4 if count > 0 => {
             let (any, between) = (random.byte(), random.below(count));
-            let number = random.pick(&[32, 33, 255, any]);
+            let number = random.pick(&[32, 48, 255, any]);
             let place = random.pick(&[0, count - 1, between]);
             journal[8 + place * entry] = number;
         }
@@ -246,7 +264,35 @@ pub fn journal(random: &mut Random, k: usize, words: usize, journal: &mut Vec<u8
             let bytes = journal.len().saturating_sub(1 + random.below(entry));
             journal.truncate(bytes);
         }
+        7 => {
+            let version: u16 = random.pick(&[0, 3, 257, 258, 3 - u16::from(version)]);
+            journal[3..5].copy_from_slice(&version.to_le_bytes());
+        }
         _ => {}
+    }
+}
+
+/// Makes numbers of entries, which hold noise, those of a version; sometimes vectors alone but for one at an end
+/// of what some version has.
+fn entry_numbers(random: &mut Random, version: u8, mut numbers: Vec<&mut u8>) {
+    let low = version == 1 || random.one_in(4);
+    for number in &mut numbers {
+        **number %= if low { 32 } else { 48 };
+    }
+    if random.one_in(6) && !numbers.is_empty() {
+        numbers.iter_mut().for_each(|number| **number %= 31);
+        let at = random.below(numbers.len());
+        *numbers[at] = random.pick(&[31, 32, 47, 48]);
+    }
+}
+
+/// The version that a fresh journal is told: mostly one that there is; sometimes one beside them, one that is right in
+/// its low bits, or any.
+pub fn version(random: &mut Random) -> u64 {
+    match random.below(4) {
+        0 => random.pick(&VERSIONS),
+        1 if random.one_in(4) => random.number() >> random.below(64),
+        _ => 1 + random.below(2) as u64,
     }
 }
 
@@ -298,8 +344,8 @@ fn damage(random: &mut Random, text: &mut Vec<u8>) {
         }
         1 => text.insert(place, text[place]),
         2 => text[place] ^= 1 << random.below(8),
-        3 => text[place] = random.pick(b"0123456789bhsdpvz.,/m "),
-        4 => text.insert(place, random.pick(b"0123456789bhsdpvz.,/m ")),
+        3 => text[place] = random.pick(b"0123456789bhsdpvz.,/m #law"),
+        4 => text.insert(place, random.pick(b"0123456789bhsdpvz.,/m #law")),
         5 => text.truncate(place),
         6 => text.push(random.pick(b" \n\0,b0")),
         _ => text.swap(place, 0),
@@ -316,9 +362,45 @@ pub fn every_text_of_three_lanes() -> impl Iterator<Item = String> {
     })
 }
 
+/// Patterns by their names and numbers, and what is nearly one: another spelling, a number that has a name, one past
+/// the last, more after it.
+#[rustfmt::skip]
+pub const NEAR_PATTERNS: [&str; 34] = [
+    "pow2", "vl1", "vl8", "vl16", "vl256", "mul4", "mul3", "all", "#14", "#28", "#0", "#1", "#5", "#13",
+    "#29", "#30", "#31", "#32", "#014", "# 14", "#-1", "14", "31", "vl0", "vl9", "vl016", "vl12", "vl512",
+    "ALL", "All", "pow", "mul", "", "all, mul #2",
+];
+
+/// Every text of a word that makes a predicate, and many that are nearly one.
+pub fn every_text_of_a_predicate() -> Vec<String> {
+    let numbers = (0..=17).map(|d| d.to_string()).chain(["03", "", "256"].map(String::from));
+    let registers: Vec<String> =
+        numbers.map(|d| format!("p{}", d)).chain(["z3", "P3", "v3"].map(String::from)).collect();
+    let named = (0..32).map(reference::pattern_name);
+    let mut patterns: Vec<String> = named.chain(NEAR_PATTERNS.map(String::from)).collect();
+    patterns.sort();
+    patterns.dedup();
+    let mut texts = Vec::new();
+    for (name, register) in ["ptrue", "pfalse", "ptrues", "Ptrue"]
+        .into_iter()
+        .flat_map(|name| registers.iter().map(move |r| (name, r)))
+    {
+        for letter in LETTERS.iter().chain(&["", "16b"]) {
+            texts.push(format!("{} {}.{}", name, register, letter));
+            let with = |pattern| format!("{} {}.{}, {}", name, register, letter, pattern);
+            texts.extend(patterns.iter().map(with));
+        }
+        texts.push(format!("{} {}", name, register));
+        texts.push(format!("{} {}, all", name, register));
+        texts.push(format!("{} {}/m, all", name, register));
+    }
+    texts
+}
+
 /// Names, registers and sizes put together as some form has them, fitting or not.
 fn pieces(random: &mut Random, text: &mut Vec<u8>) {
-    const NO_NAMES: [&str; 6] = ["addv", "saddl", "uaddqv", "ssubv", "saddw", "usublw"];
+    const NO_NAMES: [&str; 8] =
+        ["addv", "saddl", "uaddqv", "ssubv", "saddw", "usublw", "ptrues", "pfals"];
     const ARRANGEMENTS: [&str; 9] = ["8b", "16b", "4h", "8h", "2s", "4s", "1d", "2d", "32b"];
     let numbers: Vec<String> = (0..4)
         .map(|_| match random.below(12) {
@@ -341,11 +423,14 @@ fn pieces(random: &mut Random, text: &mut Vec<u8>) {
     let first = random.pick(&[wide, narrow]);
     let arrangement = random.pick(&ARRANGEMENTS);
     let [a, b, c] = [&numbers[0], &numbers[1], &numbers[2]];
-    let made = match random.below(5) {
+    let pattern = random.pick(&NEAR_PATTERNS);
+    let made = match random.below(7) {
         0 => format!("{} d{}, p{}, z{}.{}", name, a, b, c, wide),
         1 => format!("{} v{}.{}, p{}, z{}.{}", name, a, arrangement, b, c, wide),
         2 => format!("{} {}{}, v{}.{}", name, wide, a, b, arrangement),
         3 => format!("{} z{}.{}, p{}/m, z{}.{}", name, a, wide, b, c, narrow),
+        4 => format!("ptrue p{}.{}, {}", a, wide, pattern),
+        5 => format!("{} p{}.{}", random.pick(&["pfalse", "ptrue", name]), a, wide),
         _ => format!("{} z{}.{}, z{}.{}, z{}.{}", name, a, wide, b, first, c, second),
     };
     text.extend(made.as_bytes());

@@ -9,6 +9,7 @@ mod facts;
 mod guarded;
 mod inputs;
 mod lengths;
+mod made;
 mod random;
 mod reached;
 mod reading;
@@ -20,7 +21,7 @@ use engine::{numbers, Numbers, Way};
 use ghishmadul::{Facts, Kind, Refusal};
 use guarded::{Guard, Guarded};
 use random::Random;
-use reference::{facts_of, ALL};
+use reference::{facts_of, ALL, TABLE};
 use std::io::Write;
 use std::sync::atomic::{AtomicBool, Ordering};
 use tally::{Call, Tally};
@@ -29,11 +30,14 @@ use tally::{Call, Tally};
 const MOST: usize = 70_000;
 
 /// So many inputs reach every answer of every call, every length that is refused, steps of every row, size
-/// and destination, every set of facts, every kind of session, and every lane, entry and row at an end or past
-/// it; fewer may miss some.
+/// and destination, every set of facts, every kind of session, every lane, entry and row at an end or past it,
+/// and every version of a journal and number of an entry at an end; fewer may miss some.
 const ENOUGH: u64 = 100_000;
 
 const UNDEFINED: u64 = 8;
+
+/// The refusals before a journal is looked at: LENGTH, FILE, PROGRAM, ROOM.
+const BEFORE_THE_NUMBERS: [u64; 4] = [1, 2, 3, 4];
 
 /// Whether a test has found a difference: the others need not go on then.
 static FOUND: AtomicBool = AtomicBool::new(false);
@@ -46,6 +50,13 @@ struct Parts {
     program: Vec<u8>,
     journal: Vec<u8>,
     out: Vec<u8>,
+}
+
+impl Parts {
+    /// What a step or a step back writes: both files and the journal.
+    fn moved(&self) -> [Vec<u8>; 3] {
+        [self.z.clone(), self.p.clone(), self.journal.clone()]
+    }
 }
 
 struct GuardedParts {
@@ -235,7 +246,7 @@ impl<'a> Comparison<'a> {
         ));
         assert_eq!(
             (accepted + wanting, wanting, undefined),
-            (1_722_368, 428_032, 555_008),
+            (1_724_432, 428_548, 555_008),
             "the counts worked out from the table: a quarter of the sets has neither of two facts"
         );
     }
@@ -267,23 +278,6 @@ impl<'a> Comparison<'a> {
         assert_eq!(accepted, 16 * 3, "a text for each widening row and size");
     }
 
-    fn fresh(&mut self) {
-        let way = self.way();
-        let k = inputs::length(&mut self.random);
-        let bytes = match self.random.below(12) {
-            0 => self.random.below(9),
-            1 => 65_530 + self.random.below(20),
-            2 => self.random.below(65_540),
-            _ => 8 + self.random.below(1000),
-        };
-        inputs::content(&mut self.random, &mut self.parts.journal, bytes);
-        self.engine.journal.set(&self.parts.journal);
-        let engine = way.fresh(k, self.engine.journal.part());
-        let reference = numbers(reference::fresh(k, &mut self.parts.journal));
-        self.same(Call::Fresh, engine, reference, &[k]);
-        self.agree(Call::Fresh, &["journal"]);
-    }
-
     /// Sets up everything that a step is lent.
     fn state(&mut self) -> usize {
         let Comparison { random, parts, .. } = self;
@@ -292,17 +286,31 @@ impl<'a> Comparison<'a> {
         inputs::program(random, &mut parts.program);
         let words = parts.program.len() / 4;
         inputs::journal(random, k, words, &mut parts.journal);
+        self.lend();
+        k
+    }
+
+    /// Lends the engine the parts that a step is lent, as they are set up.
+    fn lend(&mut self) {
         self.engine.z.set(&self.parts.z);
         self.engine.p.set(&self.parts.p);
         self.engine.program.set(&self.parts.program);
         self.engine.journal.set(&self.parts.journal);
-        k
+    }
+
+    /// Counts the numbers of the journal that is set up, for a call whose answer tells that it looked at them.
+    fn count_numbers(&mut self, call: &str, k: usize, number: u64) {
+        if !BEFORE_THE_NUMBERS.contains(&number) {
+            self.tally.edges().count_numbers(call, k, &self.parts.journal);
+        }
     }
 
     fn move_forward(&mut self, way: Way, k: usize, facts: u8) -> u64 {
         let Parts { program, journal, .. } = &self.parts;
         let position = reference::position(k, journal);
         let next = position.and_then(|position| reference::read_word(program, position));
+        let version = journal.get(3).copied().unwrap_or(0);
+        let numbered = self.parts.journal.clone();
         let engine = way.step(
             k,
             facts,
@@ -315,7 +323,14 @@ impl<'a> Comparison<'a> {
         let reference = numbers(reference::step(k, facts_of(facts), z, p, program, journal));
         self.same(Call::Step, engine, reference, &[k, facts as usize]);
         self.agree(Call::Step, &["z", "p", "program", "journal"]);
+        if !BEFORE_THE_NUMBERS.contains(&reference[0]) {
+            self.tally.edges().count_numbers("step", k, &numbered);
+        }
         if let Ok(next) = next {
+            let made = reference::decode(next.word, facts_of(facts));
+            if made.map_or(false, |fields| TABLE[fields.row].writes_predicate()) {
+                self.tally.edges().count_made(version, reference[0]);
+            }
             self.count_facts(Call::Step, way, facts, next.word, reference[0]);
             let of_the_size = || reference::decode(next.word, Facts::ALL).is_err();
             if reference[0] == 0 || reference[0] == UNDEFINED && of_the_size() {
@@ -328,11 +343,28 @@ impl<'a> Comparison<'a> {
     fn move_back(&mut self, way: Way, k: usize) -> u64 {
         let engine =
             way.back(k, self.engine.z.part(), self.engine.p.part(), self.engine.journal.part());
+        let numbered = self.parts.journal.clone();
         let Parts { z, p, journal, .. } = &mut self.parts;
         let reference = numbers(reference::back(k, z, p, journal));
         self.same(Call::Back, engine, reference, &[k]);
         self.agree(Call::Back, &["z", "p", "journal"]);
+        if !BEFORE_THE_NUMBERS.contains(&reference[0]) {
+            self.tally.edges().count_numbers("back", k, &numbered);
+        }
+        if reference[0] == 0 {
+            self.count_padding(k, &numbered);
+        }
         reference[0]
+    }
+
+    /// Counts what stood after the old bytes of the last entry of a journal, if it is a predicate's.
+    fn count_padding(&mut self, k: usize, journal: &[u8]) {
+        let last = reference::position(k, journal).expect("a well-formed journal") - 1;
+        let entry = reference::read_entry(k, journal, last).expect("an entry");
+        if entry.target >= 32 {
+            let padding = &journal[entry.start..][..16 * k][entry.bytes..];
+            self.tally.edges().count_padding(padding.iter().all(|&byte| byte == 0));
+        }
     }
 
     fn tell_position(&mut self, way: Way, k: usize) -> Numbers {
@@ -340,6 +372,7 @@ impl<'a> Comparison<'a> {
         let reference = numbers(reference::position(k, &self.parts.journal));
         self.same(Call::Position, engine, reference, &[k]);
         self.agree(Call::Position, &["journal"]);
+        self.count_numbers("position", k, reference[0]);
         reference
     }
 
@@ -374,13 +407,15 @@ impl<'a> Comparison<'a> {
         inputs::content(random, &mut parts.z, 512 * k);
         inputs::content(random, &mut parts.p, 32 * k);
         let facts = inputs::facts(random);
+        let version = random.pick(&[1, 2, 2]);
         parts.program.clear();
         let words = random.pick(&[0, 1, 5, 40, 100, 256, 256]);
         for _ in 0..words {
-            let word = if random.one_in(200) {
-                inputs::word(random)
-            } else {
-                inputs::accepted_word(random, facts_of(facts))
+            let word = match random.below(200) {
+                0 => inputs::word(random),
+                // A word that makes a predicate would end the steps of a former journal.
+                1..=197 if version == 1 => inputs::vector_word(random, facts_of(facts)),
+                _ => inputs::accepted_word(random, facts_of(facts)),
             };
             parts.program.extend(word.to_le_bytes());
         }
@@ -391,31 +426,24 @@ impl<'a> Comparison<'a> {
         };
         parts.journal.clear();
         parts.journal.resize(bytes, 0xEE);
-        self.engine.z.set(&self.parts.z);
-        self.engine.p.set(&self.parts.p);
-        self.engine.program.set(&self.parts.program);
-        self.engine.journal.set(&self.parts.journal);
-        let way = self.way();
-        let engine = way.fresh(k, self.engine.journal.part());
-        let reference = numbers(reference::fresh(k, &mut self.parts.journal));
-        self.same(Call::Fresh, engine, reference, &[k]);
-        self.agree(Call::Fresh, &["journal"]);
+        self.lend();
+        self.start_journal(k, version);
 
         // What stood before each accepted step that has not been taken back.
-        let mut former: Vec<(Vec<u8>, Vec<u8>)> = Vec::new();
+        let mut former: Vec<[Vec<u8>; 3]> = Vec::new();
         let moves = (words + 4).min(self.random.pick(&[30, 60, 300]));
         let backward = self.random.pick(&[2, 3, 3, 20]);
         for _ in 0..moves {
             let way = self.way();
             if self.random.one_in(backward) {
                 if self.move_back(way, k) == 0 {
-                    let (z, journal) = former.pop().expect("a back undoes a step");
-                    if z != self.parts.z || journal != self.parts.journal {
+                    let before = former.pop().expect("a back undoes a step");
+                    if before != self.parts.moved() {
                         self.stop(Call::Back, "the former bytes did not come again");
                     }
                 }
             } else {
-                let before = (self.parts.z.clone(), self.parts.journal.clone());
+                let before = self.parts.moved();
                 let others = self.random.one_in(20);
                 let facts = if others { inputs::facts(&mut self.random) } else { facts };
                 if self.move_forward(way, k, facts) == 0 {
@@ -552,6 +580,21 @@ impl<'a> Comparison<'a> {
             _ => 546,
         };
         inputs::content(&mut self.random, &mut self.parts.out, bytes);
+        let reference = self.write_line_of(way, k, facts, position, number);
+        if number == 0 {
+            self.count_facts(Call::WriteLine, way, facts, next, reference);
+        }
+    }
+
+    /// The line of a step over the parts that are set up, into the output as it is; the reference's answer number.
+    fn write_line_of(
+        &mut self,
+        way: Way,
+        k: usize,
+        facts: u8,
+        position: usize,
+        number: u64,
+    ) -> u64 {
         self.engine.out.set(&self.parts.out);
         let engine = way.write_line(
             self.engine.out.part(),
@@ -570,9 +613,7 @@ impl<'a> Comparison<'a> {
         let given = [k, facts as usize, position, number as usize];
         self.same(Call::WriteLine, engine, reference, &given);
         self.agree(Call::WriteLine, &["z", "p", "program", "out"]);
-        if number == 0 {
-            self.count_facts(Call::WriteLine, way, facts, next, reference[0]);
-        }
+        reference[0]
     }
 
     /// So many inputs, at least.
@@ -633,6 +674,21 @@ fn every_text_of_three_lanes_agrees() {
 }
 
 #[test]
+fn every_made_predicate_agrees() {
+    let seed = variable("LN_SEED", 1);
+    let many = Comparison::new(seed, Guard::After, &mut Tally::default()).every_made_predicate();
+    assert_eq!(many, 5 * (4 * 32 * 16 + 16), "every size, pattern, register and length");
+}
+
+#[test]
+fn every_text_of_a_predicate_agrees() {
+    let seed = variable("LN_SEED", 1);
+    let accepted =
+        Comparison::new(seed, Guard::After, &mut Tally::default()).every_text_of_a_predicate();
+    assert_eq!(accepted, 4 * 32 * 16 + 16, "a text for each size, pattern and register");
+}
+
+#[test]
 fn inputs_of_every_call_agree() {
     let inputs = variable("LN_INPUTS", 1_000_000);
     let seed = variable("LN_SEED", 1);
@@ -648,7 +704,7 @@ fn inputs_of_every_call_agree() {
         say(&format!("not reached by these inputs: {}", missing));
         assert!(
             inputs < ENOUGH,
-            "so many inputs reach every answer, length, row, set of facts, session, lane and entry"
+            "so many inputs reach every answer, length, row, set of facts, session, lane, entry and version"
         );
     }
 }

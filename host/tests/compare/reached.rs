@@ -20,7 +20,10 @@ impl Reached {
         let row = TABLE.iter().position(|row| row.matches(word)).expect("a word of a row");
         let field = |low: u32, most: u32| (word >> low & most) as usize;
         let (d, n, m) = (field(0, 31), field(5, 31), field(16, 31));
-        let place = usize::from(d == n) + 2 * usize::from(has_second(&TABLE[row]) && d == m);
+        let place = match places(row) {
+            1 => 0,
+            _ => usize::from(d == n) + 2 * usize::from(has_second(&TABLE[row]) && d == m),
+        };
         self.counts[row][field(30, most_q(row))][field(22, 3)][place] += 1;
     }
 
@@ -39,7 +42,9 @@ impl Reached {
             let mut done = [0; PLACES.len()];
             for (size, counts) in self.counts[row][q].iter().enumerate() {
                 let steps: u64 = counts.iter().sum();
-                if is_accepted(row, q, size) {
+                if !is_there(row, size) {
+                    write!(table, "{:>9}", "-").unwrap();
+                } else if is_accepted(row, q, size) {
                     write!(table, "{:>9}", steps).unwrap();
                     done.iter_mut().zip(counts).for_each(|(done, count)| *done += count);
                 } else {
@@ -62,7 +67,7 @@ impl Reached {
                 if is_accepted(row, q, size) {
                     let never = (0..places(row)).filter(|&place| counts[place] == 0);
                     missing.extend(never.map(|place| format!("{} {}", of, PLACES[place])));
-                } else if counts.iter().all(|&count| count == 0) {
+                } else if is_there(row, size) && counts.iter().all(|&count| count == 0) {
                     missing.push(of);
                 }
             }
@@ -92,11 +97,16 @@ fn is_accepted(row: usize, q: usize, size: usize) -> bool {
     reference::decode(TABLE[row].value | (q << 30 | size << 22) as u32, Facts::ALL).is_ok()
 }
 
+/// Whether some word of the row has the size.
+fn is_there(row: usize, size: usize) -> bool {
+    TABLE[row].matches(TABLE[row].value | (size << 22) as u32)
+}
+
 /// How many places the destination can have.
 fn places(row: usize) -> usize {
-    if has_second(&TABLE[row]) {
-        PLACES.len()
-    } else {
-        2
+    match TABLE[row] {
+        of if of.writes_predicate() => 1,
+        of if has_second(&of) => PLACES.len(),
+        _ => 2,
     }
 }

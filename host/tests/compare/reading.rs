@@ -1,6 +1,6 @@
 //! Lanes, entries and rows read, and the library's version.
 
-use crate::engine::numbers;
+use crate::engine::{numbers, Way};
 use crate::inputs;
 use crate::tally::Call;
 use crate::{Comparison, Parts};
@@ -68,13 +68,20 @@ impl Comparison<'_> {
             2 => self.random.pick(&[room.saturating_sub(1), room, 255, 256, held + 1]),
             _ => self.mostly_below(held.max(1)),
         };
+        let reference = self.read_entry_at(way, k, index);
+        if LOOKED_FOR.contains(&reference) {
+            self.tally.edges().count_entry(index, held);
+        }
+    }
+
+    /// An entry of the journal that is set up; the reference's answer number.
+    pub fn read_entry_at(&mut self, way: Way, k: usize, index: usize) -> u64 {
         let engine = way.read_entry(k, self.engine.journal.part(), index);
         let reference = numbers(reference::read_entry(k, &self.parts.journal, index));
         self.same(Call::ReadEntry, engine, reference, &[k, index]);
         self.agree(Call::ReadEntry, &["journal"]);
-        if LOOKED_FOR.contains(&reference[0]) {
-            self.tally.edges().count_entry(index, held);
-        }
+        self.count_numbers("entry", k, reference[0]);
+        reference[0]
     }
 
     pub fn read_row(&mut self) {
