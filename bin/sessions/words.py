@@ -21,7 +21,8 @@ PAIRWISE = Form(0xFF3FE000, "z{d}.{T}, p{g}/m, z{n}.{H}")
 WIDENING = Form(0xFF20FC00, "z{d}.{T}, z{n}.{H}, z{m}.{H}", "zN and zM have half the width of zD")
 WIDE = Form(0xFF20FC00, "z{d}.{T}, z{n}.{T}, z{m}.{H}", "zN has the width of zD, and zM half of it")
 # a predicate made by a pattern, and one without active lanes
-PTRUE = Form(0xFF3FFC10, "p{made}.{T}, {pattern}", "a pattern is pow2, vl1 to vl8, vl16, vl32, vl64, vl128, vl256, mul4, mul3, all, or # with 0 to 31 in decimal or hex; without one it is all")
+PTRUE = Form(0xFF3FFC10, "p{made}.{T}, {pattern}",
+             "a pattern is pow2, vl1 to vl8, vl16, vl32, vl64, vl128, vl256, mul4, mul3, all, or # with 0 to 31 in decimal or hex; without one it is all")
 PFALSE = Form(0xFFFFFFF0, "p{made}.{T}", "it clears every bit, and is written with .b")
 MAKING = PTRUE, PFALSE
 

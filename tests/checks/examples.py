@@ -6,7 +6,7 @@ import textwrap
 from .common import expect, make, place, read, run
 
 REFUSED = {
-    "paper": "8 UNDEFINED: it is one of the twenty-three instructions, with a size that is not allowed",
+    "paper": "8 UNDEFINED: it is one of the twenty-five instructions, with a size that is not allowed",
     "refused": "7 UNKNOWN",
     "board": "8 UNDEFINED: sadalp needs SVE2 or SME, and the session's facts have neither",
     "sme": "8 UNDEFINED: addqv needs SVE2p1 or SME2p1, and the session's facts have neither",
