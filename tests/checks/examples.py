@@ -15,7 +15,7 @@ REFUSED = {
 
 def check():
     names = sorted(name[:-4] for name in os.listdir(place("examples")) if name.endswith(".txt"))
-    expect(set(names) >= {"strain-gauges", "columns", "accumulate", "differential", *REFUSED}, "examples are missing:", names)
+    expect(set(names) >= {"strain-gauges", "columns", "accumulate", "differential", "compiled", "switched-off", *REFUSED}, "examples are missing:", names)
     for name in names:
         text, status = place("examples", name + ".txt"), 3 if name in REFUSED else 0
         run(text).expect(status, REFUSED.get(name, ""), out=read("examples", name + ".expected"))
