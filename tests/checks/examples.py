@@ -45,7 +45,9 @@ def in_version_2():
 def readme():
     """What README.md shows is what run prints."""
     blocks = [textwrap.dedent(block) for block in re.findall(r"(?:^    .*\n)+", read("README.md").decode().split("## Link it")[0], re.MULTILINE)]
-    lines, step = [block for block in blocks if block.startswith("0 0 ")]
-    [kernel], [head] = ([block for block in blocks if block.startswith(start)] for start in ("k ", "Lanes count"))
+    lines, step, made = [block for block in blocks if block.startswith("0 0 ")]
+    (kernel, makes), [head] = ([block for block in blocks if block.startswith(start)] for start in ("k ", "Lanes count"))
     expect(lines.encode() == read("examples/paper.expected"), "README.md shows other lines than those of the session that ships")
     run("--lanes", "-", stdin=kernel.encode()).expect(0, out=(head + "\n" + step).encode())
+    drawn = run("--lanes", "-", stdin=makes.encode()).expect(0).out.decode()
+    expect("\n\n" + made + "\n1 0 " in drawn, "README.md shows another predicate than the one that is drawn:", drawn)
