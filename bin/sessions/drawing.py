@@ -1,7 +1,7 @@
 """The lanes of a walk, drawn from a session and the lines that walk printed for it."""
 import textwrap
 
-from . import phrases, words
+from . import making, phrases, words
 from .adding import ADDED, OFF, TAKEN, UNUSED, is_signed, number, step_of
 from .saying import Bad
 from .shapes import View, laid_out
@@ -21,26 +21,45 @@ def drawn(session, output, kind):
     """The drawing of a whole walk; a refused word, which is the last, has its line as walk prints it."""
     if output == NO_SESSION:
         return output.decode()
-    vectors, out, marks = list(session.vectors), [], set()
+    vectors, predicates, out, marks = list(session.vectors), list(session.predicates), [], set()
     for place, after in enumerate(walked(session, output)):
         if after is None:
             out.append(output.decode().split("\n")[place])
             continue
         parts = words.decoded(session.words[place])[1]
-        step = step_of(parts, vectors, session.predicates, after, shown_signed(parts, kind))
-        agree(step, place)
-        view = view_of(step, kind)
-        out.append("\n".join(["%d 0 %s" % (place, words.named(session.words[place]))] + step_drawn(view)))
-        marks |= marks_of(view)
-        vectors[parts.d] = after
+        if words.makes_predicate(parts):
+            lines, used = predicate_drawn(parts, predicates, after, place)
+        else:
+            lines, used = vector_drawn(parts, vectors, predicates, after, place, kind)
+        out.append("\n".join(["%d 0 %s" % (place, words.named(session.words[place]))] + lines))
+        marks |= used
     return "\n\n".join(([legend(marks)] if marks else []) + out) + "\n" if out else ""
+
+
+def vector_drawn(parts, vectors, predicates, after, place, kind):
+    """The lines and the marks of a step that leaves the bytes `after` in a vector register, which is then so among the vectors."""
+    step = step_of(parts, vectors, predicates, after, shown_signed(parts, kind))
+    agree(step, place)
+    view = view_of(step, kind)
+    vectors[parts.d] = after
+    return step_drawn(view), marks_of(view)
+
+
+def predicate_drawn(parts, predicates, after, place):
+    """The lines and the marks of a step that leaves the bytes `after` in a predicate register, which is then so among the predicates."""
+    if after != making.left_by(parts, len(after)):
+        raise Bad("line %d of the walk is not this session's: word %d leaves another predicate p%d" % (place + 1, place, parts.d))
+    made = making.made_of(parts, predicates[parts.d])
+    predicates[parts.d] = after
+    return making.made_drawn(made), {making.BITS}
 
 
 def legend(marks):
     """How lanes are counted, and what those marks mean that are used."""
     used = "; ".join("%s %s" % (mark, meaning) for mark, meaning in MEANING.items() if mark in marks)
-    said = "Beneath a lane: %s." % used + (" A number with %s came round." % CAME_ROUND if CAME_ROUND in marks else "")
-    return "\n".join([COUNTED] + textwrap.wrap(said, MOST, break_on_hyphens=False))
+    said = ["Beneath a lane: %s." % used] * bool(used)
+    said += ["A number with %s came round." % CAME_ROUND] * (CAME_ROUND in marks) + [making.BITS] * (making.BITS in marks)
+    return "\n".join([COUNTED] + textwrap.wrap(" ".join(said), MOST, break_on_hyphens=False))
 
 
 def shown_signed(parts, kind):

@@ -18,6 +18,7 @@ IN_HEX = re.compile(r"\.(?:inst|word) (?:0x([0-9a-f]{1,8})|([0-9a-f]{8}))\Z")
 # a disassembler's line: address, word as a number or as four bytes in their order in memory, text; or address and text alone
 DISASSEMBLED = re.compile(r"(?:0x)?[0-9a-f]+: (?:([0-9a-f]{8})|([0-9a-f]{2}(?: [0-9a-f]{2}){3}))(?: (.*))?\Z")
 ADDRESS = re.compile(r"^(?:0x)?[0-9a-f]+: ")
+NAMESAKE = re.compile(r"ptrue pn")  # of a predicate as a counter, which is another instruction
 HEADING = re.compile(r"[0-9a-f]+ <.*>:\Z|disassembly of section .*:\Z|[^ ]+: file format .*\Z")
 
 
@@ -228,10 +229,10 @@ def word_of(line):
 
 
 def disassembled(found):
-    """The word of a disassembler's line; where its text is one of the twenty-three instructions, it must be that word's."""
+    """The word of a disassembler's line; where its text is one of the twenty-five instructions, it must be that word's."""
     number, memory, text = found.groups()
     word = int(number, 16) if number else int.from_bytes(bytes.fromhex(memory), "little")
-    if text and text.split(" ")[0] in words.NAMES and words.assembled(text) != word:
+    if text and text.split(" ")[0] in words.NAMES and not NAMESAKE.match(text) and words.assembled(text) != word:
         reads = words.named(word)
         raise Bad("the word %08x %s, and the line's text says %s" % (word, "reads '%s'" % reads if reads else "is not accepted", echo(text)))
     return word

@@ -29,7 +29,7 @@ def left_by(session, place, line):
         wanted = "%d %d %08x" % (place, number, word)
         found = line == wanted
     else:
-        digits = 2 * layout.vector_bytes(session.k)
+        digits = 2 * (layout.predicate_bytes if words.makes_predicate(words.decoded(word)[1]) else layout.vector_bytes)(session.k)
         start = "%d 0 %s " % (place, words.named(word))
         wanted = "%sand %d hex digits" % (start, digits)
         found = line.startswith(start) and re.fullmatch("[0-9a-f]{%d}" % digits, line[len(start):])

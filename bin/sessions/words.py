@@ -1,16 +1,17 @@
-"""The twenty-three words, as numbers, as fields and as text.
+"""The twenty-five words, as numbers, as fields and as text.
 
 The table is the paper's. This is for making and reading sessions at a terminal; the proved assembler is the library's, and
 tests/terminal holds this one to the proved engine's texts over every accepted word."""
 import re
 from collections import namedtuple
 
+from . import patterns
 from .saying import Bad, echo
 
 LETTERS = "bhsdq"  # a lane's letter by its size: 8, 16, 32, 64 and 128 bits
 
-# A form's mask, and its operands: d, n, m and g are register numbers, T and H the letters of the width and of half of it, R that of
-# twice the width, A the arrangement of a V register. A rule says which widths go together where that is easily mistaken.
+# A form's mask, and its operands: d, n, m and g are register numbers, made that of a predicate which is the destination, T and H the letters of
+# the width and of half of it, R that of twice the width, A the arrangement of a V register. A rule says what is easily mistaken.
 Form = namedtuple("Form", "mask operands rule", defaults=("",))
 REDUCTION = Form(0xFF3FE000, "d{d}, p{g}, z{n}.{T}")
 SEGMENT = Form(0xFF3FE000, "v{d}.{A}, p{g}, z{n}.{T}")
@@ -19,6 +20,11 @@ PAIRWISE = Form(0xFF3FE000, "z{d}.{T}, p{g}/m, z{n}.{H}")
 # a sum or a difference of two lanes of half the width, and of one of the full width and one of half
 WIDENING = Form(0xFF20FC00, "z{d}.{T}, z{n}.{H}, z{m}.{H}", "zN and zM have half the width of zD")
 WIDE = Form(0xFF20FC00, "z{d}.{T}, z{n}.{T}, z{m}.{H}", "zN has the width of zD, and zM half of it")
+# a predicate made by a pattern, and one without active lanes
+PTRUE = Form(0xFF3FFC10, "p{made}.{T}, {pattern}",
+             "a pattern is pow2, vl1 to vl8, vl16, vl32, vl64, vl128, vl256, mul4, mul3, all, or # with 0 to 31 in decimal or hex; without one it is all")
+PFALSE = Form(0xFFFFFFF0, "p{made}.{T}", "it clears every bit, and is written with .b")
+MAKING = PTRUE, PFALSE
 
 # The facts about a core, in the order of their bits; none of them implies another.
 FACTS = ("SVE", "SVE2", "SVE2p1", "SME", "SME2p1")
@@ -52,17 +58,21 @@ ROWS = [
     Row("ssubwt", 0x45005400, WIDE, (1, 2, 3), SVE2 | SME),
     Row("usubwb", 0x45005800, WIDE, (1, 2, 3), SVE2 | SME),
     Row("usubwt", 0x45005C00, WIDE, (1, 2, 3), SVE2 | SME),
+    Row("ptrue", 0x2518E000, PTRUE, (0, 1, 2, 3), SVE | SME),
+    Row("pfalse", 0x2518E400, PFALSE, (0,), SVE | SME),
 ]
 NAMES = [row.name for row in ROWS]
 
-# where each register number stands in a word, and the greatest
-FIELDS = {"d": (0, 31), "n": (5, 31), "g": (10, 7), "m": (16, 31)}
+# where each number stands in a word, and the greatest
+FIELDS = {"d": (0, 31), "n": (5, 31), "g": (10, 7), "m": (16, 31), "made": (0, 15), "pattern": (5, patterns.MOST)}
 
-# An accepted word taken apart; a number that its form does not have is of no meaning.
-Word = namedtuple("Word", "row size q d n g m")
+# An accepted word taken apart; a number that its form does not have is of no meaning. d is the destination's number, a made predicate's too.
+Word = namedtuple("Word", "row size q d n g m pattern")
 
-REGISTER = re.compile(r"\b([bhsdqpvz])([0-9]+)")
-REGISTER_NUMBER = re.compile(r"(?<=\b[bhsdqpvz])[0-9]+")
+FIELD = re.compile(r"\{(\w+)\}")  # in a form's operands
+NUMBER = re.compile(r"(?<=\b[bhsdqpvz])[0-9]+|(?<=, )(?:%s)\Z" % patterns.SPELLED)  # a register's number or a pattern, in a text
+TAKEN_OUT = "\t"  # in its place; no text has it of itself in the paper's spacing
+WITHOUT_PATTERN = re.compile(r"p[0-9]+\.[bhsd]\Z")
 SPARE_SPACE = re.compile(r" (?=[,/.])|(?<=[,/.]) ")
 
 
@@ -98,8 +108,7 @@ def shapes():
     for row in ROWS:
         for size, q in variants(row):
             text = TEMPLATES[row.name, size, q]
-            fields = re.findall(r"\{(.)\}", text)
-            found[re.sub(r"\{.\}", "#", text)] = row.value | size << 22 | q << 30, fields
+            found[FIELD.sub(TAKEN_OUT, text)] = row.value | size << 22 | q << 30, FIELD.findall(text)
     return found
 
 
@@ -122,7 +131,7 @@ def decoded(word):
     size, q = word >> 22 & 3, word >> 30 & 1 if row.form is LONG else 0
     if (row.name, size, q) not in TEMPLATES:
         return 8, None
-    return 0, Word(row, size, q, word & 31, word >> 5 & 31, word >> 10 & 7, word >> 16 & 31)
+    return 0, Word(row, size, q, word & 31, word >> 5 & 31, word >> 10 & 7, word >> 16 & 31, word >> 5 & patterns.MOST)
 
 
 def have(facts, need):
@@ -146,37 +155,65 @@ def named(word):
     number, parts = decoded(word)
     if number:
         return None
-    return TEMPLATES[parts.row.name, parts.size, parts.q].format(d=parts.d, n=parts.n, g=parts.g, m=parts.m)
+    numbers = {"d": parts.d, "n": parts.n, "g": parts.g, "m": parts.m, "made": parts.d, "pattern": patterns.named(parts.pattern)}
+    return TEMPLATES[parts.row.name, parts.size, parts.q].format(**numbers)
 
 
 def accepted_forms(name):
     """The texts that a row allows, with D, N, M and G for the numbers."""
-    return ["%s" % TEMPLATES[key].format(d="D", n="N", m="M", g="G") for key in TEMPLATES if key[0] == name]
+    letters = {"d": "D", "n": "N", "m": "M", "g": "G", "made": "D", "pattern": "pattern"}
+    return [TEMPLATES[key].format(**letters) for key in TEMPLATES if key[0] == name]
 
 
 def exact(text):
-    """The text in the paper's spacing and case."""
+    """The text in the paper's spacing, case and spelling."""
     name, _, operands = " ".join(text.lower().split()).partition(" ")
-    return name + " " + SPARE_SPACE.sub("", operands).replace(",", ", ")
+    operands = SPARE_SPACE.sub("", operands)
+    if name == "ptrue":
+        operands = with_pattern(operands)
+    return name + " " + operands.replace(",", ", ")
+
+
+def with_pattern(operands):
+    """The operands of ptrue with the pattern as the paper writes it: all where none is given, and a name for a number that has one."""
+    if WITHOUT_PATTERN.match(operands):
+        operands += "," + patterns.named(patterns.ALL)
+    register, comma, pattern = operands.partition(",")
+    number = patterns.number_of(pattern)
+    return operands if number is None else register + comma + patterns.named(number)
 
 
 def assembled(text):
     """The word that a line of assembler stands for. Spacing and case are free."""
     text = exact(text)
-    shape = REGISTER_NUMBER.sub("#", text)
+    shape = NUMBER.sub(TAKEN_OUT, text)
     if shape not in SHAPES:
         raise Bad(why_not(text))
     word, fields = SHAPES[shape]
-    for (letter, digits), field in zip(REGISTER.findall(text), fields):
-        shift, most = FIELDS[field]
-        if len(digits) > 1 and digits[0] == "0":
-            raise Bad("the register number %s has a leading zero" % echo(digits))
-        if len(digits) > 2 or int(digits) > most:
-            if field == "g":
-                raise Bad("a governing predicate is p0 to p7, not %s" % echo(letter + digits))
-            raise Bad("a register number is 0 to 31, not %s" % echo(digits))
-        word |= int(digits) << shift
+    for given, field in zip(NUMBER.findall(text), fields):
+        word |= (pattern_in(given) if field == "pattern" else register_in(given, field)) << FIELDS[field][0]
     return word
+
+
+def pattern_in(given):
+    """The number of a pattern in a text."""
+    number = patterns.number_of(given)
+    if number > patterns.MOST:
+        raise Bad("a pattern is #0 to #%d, or a name, not %s" % (patterns.MOST, echo(given)))
+    return number
+
+
+PREDICATES = {"g": "a governing predicate is p0 to p7", "made": "a predicate is p0 to p15"}  # the fields that name one
+
+
+def register_in(digits, field):
+    """The number of a register in a text."""
+    if len(digits) > 1 and digits[0] == "0":
+        raise Bad("the register number %s has a leading zero" % echo(digits))
+    if len(digits) > 2 or int(digits) > FIELDS[field][1]:
+        some, letter_first = (PREDICATES[field], "p") if field in PREDICATES else ("a register number is 0 to 31", "")
+        raise Bad("%s, not %s" % (some, echo(letter_first + digits)))
+    return int(digits)
 
 
 def why_not(text):
@@ -187,7 +224,7 @@ def why_not(text):
         forms = name + (" (%s)" % rule if rule else "")
         return "%s is none of the forms of %s: %s" % (echo(text.strip()), forms, "; ".join(accepted_forms(name)))
     for known in NAMES:
-        if re.match(known + r"[bhsdvz][0-9]", text):
+        if re.match(known + r"[bhsdpvz][0-9]", text):
             return "a space is missing after %s: write %s" % (known, echo(known + " " + text[len(known):].strip()))
     if re.match(r"(0x)?[0-9a-f]{8} ?\Z", text):
         return "a word in hex is written '.inst 0x%s'" % text.strip()[-8:]
@@ -199,9 +236,16 @@ def letter(width):
     return LETTERS[width.bit_length() - 1]
 
 
+def makes_predicate(parts):
+    """Whether a word's destination is a predicate register."""
+    return parts.row.form in MAKING
+
+
 def reads(parts):
     """The registers that a word reads, each with its kind, number and the bytes of a lane (for a predicate: of a lane that it governs)."""
     width, form = 1 << parts.size, parts.row.form
+    if makes_predicate(parts):
+        return []
     if form in (REDUCTION, SEGMENT):
         return [("z", parts.n, width), ("p", parts.g, width)]
     if form == LONG:

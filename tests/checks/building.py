@@ -8,7 +8,7 @@ import tempfile
 from .checkout import Checkout
 from .common import Ran, expect, read
 
-NOTE = ("run: word 3, 04c02020, is refused with 8 UNDEFINED: it is one of the twenty-three instructions, with a size that is not allowed; "
+NOTE = ("run: word 3, 04c02020, is refused with 8 UNDEFINED: it is one of the twenty-five instructions, with a size that is not allowed; "
         "the walk ends there\n")
 NOBODY = 65534
 

@@ -4,12 +4,14 @@ import re
 from collections import namedtuple
 
 from .common import expect
+from .patterns import makes
 
 MOST = 80  # columns
 MEANINGS = {"+": "added", "-": "taken away", "++": "added twice", "+-": "added and taken away", "off": "not active, not added",
             ".": "not used by the word"}
+STAR, BITS = "A number with * came round.", "In a predicate: 1 active, 0 not; lane e of w bytes has bit e*w."
 ROWS = ("lane", "value", "enters", "before", "gained", "sum", "after")
-REGISTER = r"z\d+\.[bhsd]"
+REGISTER = r"[zp]\d+\.[bhsd]"
 LIST = r"\d+(?: to \d+)?(?:(?:, | and )\d+(?: to \d+)?)*"
 LANES = re.compile(r"(%s(?: and %s)?) lanes? (%s)" % (REGISTER, REGISTER, LIST))
 
@@ -36,14 +38,26 @@ def legend(lines, steps):
     """The head says how lanes count, and explains the marks that there are and no others."""
     expect(lines[0] == "Lanes count from 0, as Arm counts; lane 0 is a register's lowest bytes.", "the first line is", lines[0])
     used = {mark for step in steps for table in step.tables for mark in table.rows.get("enters", ())}
-    said = " ".join(lines[1:])
-    star = " A number with * came round."
-    expect(said.endswith(star) == any("came round" in sentence for step in steps for sentence in step.said), "the head says of the mark *", said)
-    said = said[:-len(star)] if said.endswith(star) else said
+    said, bits = without(" ".join(lines[1:]), BITS)
+    expect(bits == any(makes_predicate(step) for step in steps), "the head says of predicates", said)
+    said, star = without(said, STAR)
+    expect(star == any("came round" in sentence for step in steps for sentence in step.said), "the head says of the mark *", said)
+    if all(makes_predicate(step) for step in steps):
+        expect(said == "", "the head explains marks where nothing is added:", said)
+        return
     told = re.fullmatch(r"Beneath a lane: (.*)\.", said)
     expect(told, "the head says no marks:", said)
     told = dict(part.split(" ", 1) for part in told[1].split("; "))
     expect(told == {mark: MEANINGS[mark] for mark in told} and used <= set(told), "the head explains", told, "and marks are", sorted(used))
+
+
+def without(said, last):
+    """What is said before a last sentence, and whether that is the last."""
+    return (said[:-len(last)].rstrip(" "), True) if said.endswith(last) else (said, False)
+
+
+def makes_predicate(step):
+    return makes(step.title.split(" ")[2])
 
 
 def step_of(lines):

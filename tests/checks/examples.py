@@ -6,7 +6,7 @@ import textwrap
 from .common import expect, make, place, read, run
 
 REFUSED = {
-    "paper": "8 UNDEFINED: it is one of the twenty-three instructions, with a size that is not allowed",
+    "paper": "8 UNDEFINED: it is one of the twenty-five instructions, with a size that is not allowed",
     "refused": "7 UNKNOWN",
     "board": "8 UNDEFINED: sadalp needs SVE2 or SME, and the session's facts have neither",
     "sme": "8 UNDEFINED: addqv needs SVE2p1 or SME2p1, and the session's facts have neither",
@@ -15,7 +15,7 @@ REFUSED = {
 
 def check():
     names = sorted(name[:-4] for name in os.listdir(place("examples")) if name.endswith(".txt"))
-    expect(set(names) >= {"strain-gauges", "columns", "accumulate", "differential", *REFUSED}, "examples are missing:", names)
+    expect(set(names) >= {"strain-gauges", "columns", "accumulate", "differential", "compiled", "switched-off", *REFUSED}, "examples are missing:", names)
     for name in names:
         text, status = place("examples", name + ".txt"), 3 if name in REFUSED else 0
         run(text).expect(status, REFUSED.get(name, ""), out=read("examples", name + ".expected"))
@@ -45,7 +45,9 @@ def in_version_2():
 def readme():
     """What README.md shows is what run prints."""
     blocks = [textwrap.dedent(block) for block in re.findall(r"(?:^    .*\n)+", read("README.md").decode().split("## Link it")[0], re.MULTILINE)]
-    lines, step = [block for block in blocks if block.startswith("0 0 ")]
-    [kernel], [head] = ([block for block in blocks if block.startswith(start)] for start in ("k ", "Lanes count"))
+    lines, step, made = [block for block in blocks if block.startswith("0 0 ")]
+    (kernel, makes), [head] = ([block for block in blocks if block.startswith(start)] for start in ("k ", "Lanes count"))
     expect(lines.encode() == read("examples/paper.expected"), "README.md shows other lines than those of the session that ships")
     run("--lanes", "-", stdin=kernel.encode()).expect(0, out=(head + "\n" + step).encode())
+    drawn = run("--lanes", "-", stdin=makes.encode()).expect(0).out.decode()
+    expect("\n\n" + made + "\n1 0 " in drawn, "README.md shows another predicate than the one that is drawn:", drawn)

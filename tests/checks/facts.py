@@ -6,14 +6,14 @@ import struct
 from sessions import layout, readable, words
 
 from .common import expect, walk
-from .words import TABLE, allowed, text
+from .words import TABLE, allowed, left, text
 
 FACTS = ("SVE", "SVE2", "SVE2p1", "SME", "SME2p1")  # in the order of their bits
 
 
 def need(name):
     """The facts of which a row needs one; there are none where it needs nothing."""
-    if name in ("saddv", "uaddv"):
+    if name in ("saddv", "uaddv", "ptrue", "pfalse"):
         return "SVE", "SME"
     if name == "addqv":
         return "SVE2p1", "SME2p1"
@@ -62,7 +62,7 @@ def rows_checked(dice, facts):
     """A word of each row: those that the core has are stepped in one walk, each other one is refused in its own."""
     program = [(row[0], any_of(dice, row)) for row in TABLE]
     stepped = [(name, word) for name, word in program if have(facts, name)]
-    lines = ["%d 0 %s %s\n" % (place, text(name, word), "0" * 32) for place, (name, word) in enumerate(stepped)]
+    lines = ["%d 0 %s %s\n" % (place, text(name, word), left(word, name)) for place, (name, word) in enumerate(stepped)]
     expect(walk(session(facts, [word for _, word in stepped])) == "".join(lines), "walk refuses what a core has with the facts", str(facts))
     for name, word in program:
         number = 0 if have(facts, name) else 8
@@ -87,6 +87,8 @@ SHOWN = [
     (0x04052020, "addqv v0.16b, p0, z1.b", "addqv", "  # addqv needs SVE2p1 or SME2p1: walk refuses it with 8 UNDEFINED"),
     (0x45C45C63, "usubwt z3.d, z3.d, z4.s", "usubwt", "  # usubwt needs SVE2 or SME: walk refuses it with 8 UNDEFINED"),
     (0x2E303822, "uaddlv h2, v1.8b", "uaddlv", None),
+    (0x2558E123, "ptrue p3.h, vl16", "ptrue", "  # ptrue needs SVE or SME: walk refuses it with 8 UNDEFINED"),
+    (0x2518E40F, "pfalse p15.b", "pfalse", "  # pfalse needs SVE or SME: walk refuses it with 8 UNDEFINED"),
     (0x04C02020, ".inst 0x04c02020  # 8 UNDEFINED", "saddv", ", and saddv needs SVE or SME"),
     (0x0EB03822, ".inst 0x0eb03822  # 8 UNDEFINED", "saddlv", None),
     (0xD65F03C0, ".inst 0xd65f03c0  # 7 UNKNOWN", "saddlv", None),

@@ -11,7 +11,8 @@ from itertools import product
 from sessions import drawing, layout, readable, words
 
 from .common import Failed, Ran, expect, place, read, run, walk
-from .drawn import steps_of
+from .drawn import makes_predicate, steps_of
+from .made import MadeReading, number_of
 from .meant import meant_by
 from .reading import SEEN, Reading
 from .round_trip import shapes
@@ -73,20 +74,32 @@ def predicate(dice, size):
 def read_back(session, lines, shown, kind):
     """Reads a drawing and holds it to the session and walk's lines; how many steps it has."""
     steps, refused = steps_of(shown)
-    lines, state = lines.split("\n")[:-1], list(session.vectors)
+    lines, vectors, predicates = lines.split("\n")[:-1], list(session.vectors), list(session.predicates)
     if refused is not None:
         expect(lines.pop() == refused, "the refused line is drawn otherwise:", refused)
     expect([step.title for step in steps] == [line.rsplit(" ", 1)[0] for line in lines], "the steps that are drawn differ from walk's")
     for step, line in zip(steps, lines):
         after = bytes.fromhex(line.rsplit(" ", 1)[1])[::-1]
-        as_signed = kind == "signed" or kind != "unsigned" and step.title.split(" ")[2][0] == "s"
-        meant = meant_by(step.title, len(after), session.predicates, as_signed)
         try:
-            Reading(step, meant, state, after, kind, as_signed).check()
+            (read_predicate if makes_predicate(step) else read_vector)(step, vectors, predicates, after, kind)
         except Failed as reason:
             raise Failed("%s, as %s with k = %d: %s" % (step.title, kind, session.k, reason))
-        state[meant.d] = after
     return len(steps)
+
+
+def read_vector(step, vectors, predicates, after, kind):
+    """Reads a step that leaves these bytes in a vector register, and puts them among the vectors."""
+    as_signed = kind == "signed" or kind != "unsigned" and step.title.split(" ")[2][0] == "s"
+    meant = meant_by(step.title, len(after), predicates, as_signed)
+    Reading(step, meant, vectors, after, kind, as_signed).check()
+    vectors[meant.d] = after
+
+
+def read_predicate(step, _, predicates, after, __):
+    """Reads a step that leaves these bytes in a predicate register, and puts them among the predicates."""
+    number = number_of(step.title)
+    MadeReading(step, predicates[number], after).check()
+    predicates[number] = after
 
 
 def examples():
@@ -165,9 +178,11 @@ def holds(session, lines, shown):
 
 
 def short():
-    """At k = 16 a step of registers that are zero but for a lane or two is told in few lines, whichever lanes are off."""
+    """At k = 16 a step of vectors that are zero but for a lane or two is told in few lines, whichever lanes are off."""
     dice = random.Random(6)
     for shape in shapes(words.EVERY_FACT):
+        if "made" in shape[1]:
+            continue
         for lane in (None, 0, 77, 255):
             vectors = [bytes(256)] * 32
             if lane is not None:

@@ -134,7 +134,7 @@ def explained(checkout, path):
     asked(checkout, walked)
 
 
-SIZE = "it is one of the twenty-three instructions, with a size that is not allowed"
+SIZE = "it is one of the twenty-five instructions, with a size that is not allowed"
 
 
 def reasons(walked):

@@ -1,6 +1,6 @@
 """The words of bin/ against the proved engine.
 
-`accepted` lists every accepted word with its text, written anew from the paper's table. For each of the 1,722,368: walk, the proved program,
+`accepted` lists every accepted word with its text, written anew from the paper's table. For each of the 1,724,432: walk, the proved program,
 steps it and prints this text; bin/ assembles the text to the word, and names the word by the text. Words that are refused, for each row
 and size with the fields at their ends: bin/ and walk give the same number. So bin/'s assembler is held to the proved engine's answers
 over all accepted words; that it accepts no other text is held by `sound`, over texts with a change at any place, and by `three_registers`,
@@ -14,8 +14,9 @@ from sessions import saying, words
 
 from . import common
 from .common import expect, walk
+from .patterns import NAMES, made, makes
 
-WORDS, UNDEFINED = 1722368, 555008
+WORDS, UNDEFINED = 1724432, 555008
 
 
 def widening():
@@ -35,6 +36,8 @@ TABLE = [
     ("sadalp", 0xFF3FE000, 0x4404A000, (1, 2, 3)),
     ("uadalp", 0xFF3FE000, 0x4405A000, (1, 2, 3)),
     *widening(),
+    ("ptrue", 0xFF3FFC10, 0x2518E000, (0, 1, 2, 3)),
+    ("pfalse", 0xFFFFFFF0, 0x2518E400, (0,)),
 ]
 T = "bhsd"
 
@@ -50,6 +53,8 @@ def text(name, word):
         return "%s %s%d, v%d.%s" % (name, "hsd"[size], d, n, (("8b", "4h", None), ("16b", "8h", "4s"))[q][size])
     if name in ("sadalp", "uadalp"):
         return "%s z%d.%s, p%d/m, z%d.%s" % (name, d, T[size], g, n, T[size - 1])
+    if makes(name):
+        return "ptrue p%d.%s, %s" % (d, T[size], NAMES[n]) if name == "ptrue" else "pfalse p%d.b" % d
     first = T[size] if name[4] == "w" else T[size - 1]
     return "%s z%d.%s, z%d.%s, z%d.%s" % (name, d, T[size], n, first, m, T[size - 1])
 
@@ -77,12 +82,17 @@ def session(program):
     return b"LNW" + struct.pack("<HBH", 1, 1, len(program)) + bytes(544) + struct.pack("<%dI" % len(program), *program)
 
 
+def left(word, reads):
+    """The register that a word leaves at k = 1 where every vector is zero, as walk prints it."""
+    return "%04x" % made(word, 1) if makes(reads.split(" ")[0]) else "0" * 32
+
+
 def stepped(batch):
     """The proved program steps each word and prints its text."""
     lines = walk(session([word for word, _ in batch])).split("\n")
     expect(lines[-1] == "" and len(lines) == len(batch) + 1, "walk ends after", lines[-2:])
     for place, (line, (word, reads)) in enumerate(zip(lines, batch)):
-        expect(line == "%d 0 %s %s" % (place, reads, "0" * 32), line, "for the word", hex(word))
+        expect(line == "%d 0 %s %s" % (place, reads, left(word, reads)), line, "for the word", hex(word))
 
 
 def row_checked(row):
@@ -141,9 +151,9 @@ def refused():
 
 
 def sound(some):
-    """A text that is assembled is, in the paper's spacing and case, the text of its word."""
+    """A text that is assembled is, in the paper's spacing, case and spelling, the text of its word."""
     dice = random.Random(2)
-    letters = "abdghlmpqstuvwz0123456789 ,./"
+    letters = "abdghlmpqstuvwxz0123456789 ,./#"
     for _, reads in some:
         for _ in range(12):
             at, kind = dice.randrange(len(reads)), dice.randrange(3)
