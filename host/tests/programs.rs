@@ -4,13 +4,14 @@
 use ghishmadul::Facts;
 use reference::{back, fresh, line, step};
 
-/// The words of `fillings`, one of every row, with register 3 as destination and among the sources.
+/// The words of `fillings`: one of every row that writes a vector, with register 3 as destination and among the
+/// sources, then two of ptrue and one of pfalse.
 #[rustfmt::skip]
-const WORDS: [u32; 23] = [
+const WORDS: [u32; 26] = [
     0x0400_2463, 0x04C1_2463, 0x0445_2463, 0x4E30_3863, 0x6EB0_3863, 0x4444_A463, 0x44C5_A463,
     0x4543_0063, 0x4583_0463, 0x45C3_0863, 0x4543_0C63, 0x4544_1063, 0x4583_1483, 0x45C5_1863,
     0x4543_1CA3, 0x4583_4063, 0x45C4_4463, 0x4543_4883, 0x4585_4C63, 0x45C3_50A3, 0x4543_5463,
-    0x4584_5863, 0x45C3_5C83,
+    0x4584_5863, 0x45C3_5C83, 0x2558_E3C1, 0x2558_E123, 0x2518_E40F,
 ];
 
 /// The lengths that both programs try.
@@ -41,14 +42,16 @@ fn families_prints_the_references_lines() {
     assert_eq!(lines, include_str!("../../crates/families/stdout"));
 }
 
-/// The runs of `trials`: the length, the facts as a byte and the journal's bytes.
-fn runs() -> Vec<(usize, u8, usize)> {
+/// The runs of `trials`: the length, the journal's version, the facts as a byte and the journal's bytes.
+fn runs() -> Vec<(usize, u64, u8, usize)> {
     let mut runs = Vec::new();
     for k in LENGTHS {
         let entry = 8 + 1 + 16 * k;
-        runs.extend([8, entry - 1, entry, 65_536].map(|room| (k, Facts::ALL.byte(), room)));
+        let rooms = [8, entry - 1, entry, 65_536];
+        runs.extend(rooms.map(|room| (k, 2, Facts::ALL.byte(), room)));
+        runs.push((k, 1, Facts::ALL.byte(), 65_536));
     }
-    runs.extend([0, 1, 3, 8, 7].map(|byte| (4, byte, 65_536)));
+    runs.extend([0, 1, 3, 8, 7].map(|byte| (4, 2, byte, 65_536)));
     runs
 }
 
@@ -56,11 +59,11 @@ fn runs() -> Vec<(usize, u8, usize)> {
 fn trials_prints_the_references_counts() {
     let program: Vec<u8> = WORDS.iter().cycle().take(256).flat_map(|w| w.to_le_bytes()).collect();
     let mut lines = String::new();
-    for (k, byte, room) in runs() {
+    for (k, version, byte, room) in runs() {
         let facts = Facts::from_byte(byte);
         let (mut z, mut p) = files(k);
         let mut journal = vec![0; room];
-        fresh(k, 2, &mut journal).expect("a legal length and room");
+        fresh(k, version, &mut journal).expect("a legal length and room");
         let (mut forward, mut backward) = (0, 0);
         for direction in filled(1200, 9, 3) {
             if direction == 0 {
@@ -70,7 +73,8 @@ fn trials_prints_the_references_counts() {
                     u32::from(step(k, facts, &mut z, &mut p, &program, &mut journal).is_ok());
             }
         }
-        lines += &format!("{} {} {} {} {} same\n", k, byte, room, forward, backward);
+        let counts = format!("{} {}", forward, backward);
+        lines += &format!("{} {} {} {} {} same\n", k, version, byte, room, counts);
     }
     assert_eq!(lines, include_str!("../../crates/trials/stdout"));
 }
