@@ -1,15 +1,16 @@
--- The bytes of a line: at most those of the longest, which is computed from its parts.
+-- The digits of a register, and the bytes of a line: at most those of the longest, which is computed from its parts.
 -- Assumes nothing.
 use mathlib.Core.Path.{_≡_, refl}
 use mathlib.Core.List.{List}
-use Prim.Native.Nat.{ℕ, zero, suc, _+_, _≤_}
+use Prim.Native.Nat.{ℕ, zero, suc, _+_, _*_, _≤_, _<_}
 use native.Mathlib.Omega.{arith}
 use lib.ListN.{length, length-append}
-use Rattle.machine.specs.Size.{vectorBytes, mostLength, mostWords}
+use Rattle.machine.specs.Size.{predicates, vectorBytes, mostLength, mostWords}
 use Rattle.machine.specs.Refusal.{DONE}
-use Rattle.registers.specs.State.{State, read}
+use Rattle.registers.specs.Register.{Register, IsRegister, predicate, registerBytes}
+use Rattle.registers.specs.State.{State, Sized, read}
 use Rattle.registers.proofs.Places.{bytes-most}
-use Rattle.registers.proofs.States.{read-most}
+use Rattle.registers.proofs.States.{read-most, length-read}
 use Rattle.programs.specs.Word.{wordAt}
 use Rattle.words.specs.Decode.{decoded, fieldsOf}
 use Rattle.meaning.specs.Execute.{targetOf}
@@ -17,13 +18,20 @@ use Rattle.digits.specs.Digits.{decimalWidth}
 use Rattle.digits.proofs.Decimals.{digits-length, width-most, width-grows}
 use Rattle.names.specs.Named.{leastOut}
 use Rattle.names.proofs.Pieces.{word-length}
-use Rattle.lines.specs.Line.{lead, refusedLine, acceptedLine, stepLine, lineBytes, mostLine}
+use Rattle.lines.specs.Line.{byteHexDigits, hexOf, lead, refusedLine, acceptedLine, stepLine, lineBytes, mostLine}
 use Rattle.lines.proofs.Hex.{hex-length}
 use Rattle.lines.proofs.Placed.{refused-line}
 
 -- what a line starts with has the digits of two numbers, and a space after each
 lead-length : (position number : ℕ) → length (lead position number) ≡ (decimalWidth position + 1) + (decimalWidth number + 1)
 lead-length position number = simp (length-append, digits-length)
+
+-- a register is shown in two digits for each of its bytes, so a predicate in 4k
+pub register-digits : (k : ℕ) (r : Register) (s : State) → Sized k s → IsRegister r → length (hexOf (read k r s)) ≡ byteHexDigits * registerBytes k (r .kind)
+register-digits k r s sized is = rw (hex-length (read k r s), length-read k r s sized is)
+
+pub predicate-digits : (k d : ℕ) (s : State) → Sized k s → d < predicates → length (hexOf (read k (predicate d) s)) ≡ 4 * k
+predicate-digits k d s sized is = omega (arith, register-digits k (predicate d) s sized is)
 
 -- a refused step's line is short, whatever its numbers are
 pub refused-most : (position number word : ℕ) → length (refusedLine position number word) ≤ mostLine

@@ -3,3 +3,5 @@ pub mod Outputs
 pub mod Paper
 pub mod Cut
 pub mod Whole
+pub mod Executed
+pub mod Made

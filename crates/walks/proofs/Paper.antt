@@ -73,7 +73,7 @@ module _ (c : Core) (program : List ℕ) (position : ℕ) (b : Buffers) (at : St
   late = refused (wordTests word ++ pastTests (c .k) (fieldsOf word) (b .journal))
 
   -- a step is refused with END exactly at the program's end
-  step-is : number ≡ cond (leb (wordsOf (length program)) position) END late
+  pub step-is : number ≡ cond (leb (wordsOf (length program)) position) END late
   step-is =
       step-number c program b
       ∙ rw (at .files .legal, eq-eqb _ _ (at .files .vectorSize), eq-eqb _ _ (at .files .predicateSize), at .whole)
@@ -91,7 +91,7 @@ module _ (c : Core) (program : List ℕ) (position : ℕ) (b : Buffers) (at : St
       (rw (lt-leb _ _ h) at (sym step-is ∙ e))
 
   -- the files keep their sizes
-  files-after : Sized (c .k) (left .after .files)
+  pub files-after : Sized (c .k) (left .after .files)
   files-after = go number refl
     where
       go : (n : ℕ) → number ≡ n → Sized (c .k) (left .after .files)
@@ -121,7 +121,7 @@ module _ (c : Core) (program : List ℕ) (position : ℕ) (b : Buffers) (at : St
           line h number refl ∙ rw (ne-eqb _ _ (before-end h))
 
   -- after an accepted step the walk stands at the next position
-  standing-next : number ≡ 0 → Standing c program (position + 1) (left .after)
+  pub standing-next : number ≡ 0 → Standing c program (position + 1) (left .after)
   standing-next e =
       let a = step-accepted c program b e in
       let room = step-room c program b a in
@@ -167,7 +167,7 @@ lines-enough (suc n) more c program position b at ended =
     (λ e. lines-enough n more c program (position + 1) (stepped c program b .after) (standing-next c program position b at e) (omega arith)))
 
 -- a session's walk starts at position 0
-session-standing : (bytes : List ℕ) (s : Session) → Parts bytes s → Standing (sessionCore s) (programPart s bytes) 0 (sessionBuffers s bytes)
+pub session-standing : (bytes : List ℕ) (s : Session) → Parts bytes s → Standing (sessionCore s) (programPart s bytes) 0 (sessionBuffers s bytes)
 unfolding walkJournal
 session-standing bytes s parts =
     let few : wordBytes * s .count ≤ wordBytes * mostWords = omega (arith, parts .few) in
