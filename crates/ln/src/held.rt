@@ -171,7 +171,7 @@ pub(crate) fn held_read_lane(
     crate::asked::ln_read_lane(k, z, p, source, predicate, size, is_signed, lane)
 }
 
-// A journal's entry by the host's call: the number, the register's number, and where its old bytes stand.
+// A journal's entry by the host's call: the number, the entry's number, and where the old bytes stand.
 pub(crate) fn held_read_entry(k: usize, journal: &[u8], index: usize) -> LnEntry
     ensures { λ r. ⌜ EntryRead k (now (journal .entry)) index r ⌝ }
 {

@@ -25,7 +25,7 @@ pub struct LnAnswer {
     pub value: u64,
 }
 
-// A word's fields, which are 0 with a refusal.
+// A word's fields; one that its row does not have is 0, and all are 0 with a refusal.
 #[repr(C)]
 pub struct LnFields {
     pub number: u64,
@@ -79,7 +79,8 @@ pub struct LnLane {
     pub bit: u64,
 }
 
-// A journal's entry: its register's number, and where that register's old bytes stand in the journal and how many; 0 with a refusal.
+// A journal's entry: its number, which is a vector register's or 32 above a predicate register's, and where that register's old bytes stand in
+// the journal and how many; 0 with a refusal.
 #[repr(C)]
 pub struct LnEntry {
     pub number: u64,
