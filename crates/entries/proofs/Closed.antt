@@ -10,19 +10,18 @@ use native.Mathlib.Numerals.{add-one}
 use native.Mathlib.Omega.{arith}
 use lib.ListN.{length, take, drop, replicate, length-append, length-replicate}
 use lib.Seq.{take-at, drop-at, drop-drop}
-use borrow.Author.Tests.{lt-leb}
 use Rattle.parts.specs.Part.{part}
 use Rattle.parts.specs.Number.{bytesOf, number}
 use Rattle.parts.proofs.Numbers.{drop-replicate}
 use Rattle.machine.specs.Size.{vectorBytes, mostWords}
 use Rattle.entries.specs.Layout.{journalVersionAt, journalVersionBytes, heading, countAt, countBytes, isVersion, layoutOf, versionOf, headerOf, isRoom}
-use Rattle.entries.specs.Layout.{entryBytes, slotAt, entryAt, capacityFor, capacityOf, heldOf, positionOf, isFull, Entry, encodedEntry, encodedEntries, lastEntry}
+use Rattle.entries.specs.Layout.{entryBytes, slotAt, entryAt, capacityFor, capacityOf, heldOf, positionOf, Entry, encodedEntry, encodedEntries, lastEntry}
 use Rattle.entries.specs.Layout.{journalOf, freshJournal, withCount, withEntry, pushed, popped}
 use Rattle.entries.specs.Formed.{Formed}
 use Rattle.entries.proofs.Versions.{version-few, header-plain, header-least}
 use Rattle.entries.proofs.Places.{room-least, room-most, slot-next, slot-inside, count-read}
 use Rattle.entries.proofs.Slots.{slot-plain}
-use Rattle.entries.proofs.Written.{Room, Space, pushed-is, space-last, space-popped}
+use Rattle.entries.proofs.Written.{room-full, Room, Space, pushed-is, space-last, space-popped}
 
 -- every entry has the bytes of a register
 abbrev pub EntriesSized : ℕ → List Entry → Type 0
@@ -192,8 +191,7 @@ module _ (version k n : ℕ) (es : List Entry) (e : Entry) (r : RoomAfter versio
       }
 
   pub has-room : Formed k journal → Room k e journal
-  unfolding isFull
-  has-room f = record { formed = f; room = lt-leb _ _ (space .place); few = few; whole = r .whole }
+  has-room f = record { formed = f; room = room-full k journal (space .place); few = few; whole = r .whole }
     where
       few : positionOf journal < mostWords
       few = rw (position-closed version k n es (r .sized) (omega (arith, r .few))) (r .few)

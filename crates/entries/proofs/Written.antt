@@ -12,7 +12,7 @@ use native.Mathlib.Numerals.{add-one}
 use native.Mathlib.Omega.{arith}
 use lib.ListN.{length, getD, take, replicate, length-replicate}
 use lib.Seq.{take-all}
-use borrow.Author.Tests.{leb-false, ltb-true, ltb-false}
+use borrow.Author.Tests.{leb-false, ltb-true, ltb-false, lt-leb}
 use Rattle.parts.specs.Part.{part, withPart, Outside}
 use Rattle.parts.specs.Number.{number, bytesOf, numberAt}
 use Rattle.parts.proofs.Numbers.{length-bytes}
@@ -221,6 +221,10 @@ module _ (k : ℕ) (journal : List ℕ) (f : Formed k journal) where
 pub full-room : (k : ℕ) (journal : List ℕ) → isFull k journal ≡ false → Formed k journal → heldOf journal < capacityOf k journal
 unfolding isFull
 full-room k journal h f = leb-false _ _ h
+
+pub room-full : (k : ℕ) (journal : List ℕ) → heldOf journal < capacityOf k journal → isFull k journal ≡ false
+unfolding isFull
+room-full k journal h = lt-leb _ _ h
 
 -- an entry of a whole register, and a well-formed journal that has room for it
 pub record Room (k : ℕ) (e : Entry) (journal : List ℕ) : Type 0 where

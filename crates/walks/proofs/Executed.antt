@@ -23,7 +23,7 @@ use Rattle.meaning.specs.Execute.{targetOf, executed}
 use Rattle.meaning.proofs.Effects.{target-register}
 use Rattle.entries.specs.Layout.{layoutOf, mostJournal, versionOf, heldOf, capacityFor, capacityOf, mayName, isFull}
 use Rattle.entries.proofs.Versions.{header-most, register-named}
-use Rattle.entries.proofs.Written.{version-pushed, capacity-pushed, held-pushed}
+use Rattle.entries.proofs.Written.{room-full, version-pushed, capacity-pushed, held-pushed}
 use Rattle.entries.proofs.Closed.{version-closed, length-closed, held-closed}
 use Rattle.journal.specs.Left.{Core, Buffers}
 use Rattle.steps.specs.Calls.{wordNow, stepped}
@@ -75,8 +75,7 @@ module _ (n : ℕ) (c : Core) (program : List ℕ) (position : ℕ) (b : Buffers
       le-leb _ _ (register-named (versionOf (b .journal)) (targetOf f) (target-register f (c .k) (b .files) x) (λ kind e. omega (arith, going .version, e)))
 
   roomy : isFull (c .k) (b .journal) ≡ false
-  unfolding isFull
-  roomy = lt-leb (capacityOf (c .k) (b .journal)) (heldOf (b .journal)) (omega (arith, going .room))
+  roomy = room-full (c .k) (b .journal) (omega (arith, going .room))
 
   -- so the step is accepted, and its word executed
   step-done : stepped c program b .number ≡ 0

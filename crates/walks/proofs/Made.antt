@@ -23,11 +23,11 @@ use Rattle.operands.specs.Operands.{letterOf}
 use Rattle.names.specs.Text.{keyOf, nameOf, textOf}
 use Rattle.made.specs.Made.{madeByte, madeBytes}
 use Rattle.meaning.specs.Execute.{targetOf, sourceOf, governingOf, effectOf}
-use Rattle.entries.specs.Layout.{layoutOf}
 use Rattle.session.specs.declared.Session.{Session}
 use Rattle.session.specs.Body.{filesPlace, bodyOf}
 use Rattle.session.specs.Layout.{sessionOf}
 use Rattle.lines.specs.Line.{hexOf, withNewline, stepLine}
+use Rattle.entries.proofs.Versions.{second-header}
 use Rattle.walks.specs.Output.{outputOf}
 use Rattle.walks.specs.Paper.{AllAccepted, stateAfter, executedLines}
 use Rattle.walks.proofs.Executed.{walkCapacity, output-executed}
@@ -100,8 +100,7 @@ accepted = (refl, (refl, tt))
 
 -- the journal has room for them
 fits : 2 ≤ walkCapacity 1
-unfolding layoutOf
-fits = omega arith
+fits = rw second-header (omega arith)
 
 pub made-prints : outputOf madeSession ≡ madeLine ++ summedLine
 made-prints = output-executed madeSession twoWords reading refl accepted fits ∙ lines
