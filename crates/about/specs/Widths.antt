@@ -32,15 +32,15 @@ wideBytes Widening wide Second w = w / 2
 wideBytes Widening wide Destination w = w
 
 -- of a word that makes a predicate: it has no source, and a bit of what it makes governs a lane of w bytes
-abbrev pub madeBytes : Operand → ℕ → ℕ
-madeBytes First w = 0
-madeBytes Second w = 0
-madeBytes Destination w = w
+abbrev pub madeLaneBytes : Operand → ℕ → ℕ
+madeLaneBytes First w = 0
+madeLaneBytes Second w = 0
+madeLaneBytes Destination w = w
 
 abbrev pub familyBytes : Family → Bool → Operand → ℕ → ℕ
 familyBytes (Low low) wide operand w = lowBytes low operand w
 familyBytes (Wide family) wide operand w = wideBytes family wide operand w
-familyBytes (Made made) wide operand w = madeBytes operand w
+familyBytes (Made made) wide operand w = madeLaneBytes operand w
 
 -- whether a form allows a size, with some Q
 abbrev pub allowsSome : Form → ℕ → Bool

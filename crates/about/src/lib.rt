@@ -11,7 +11,7 @@ use rows::WideFamily;
 ghost use mathlib.Core.Path.{_≡_};
 ghost use Prim.Native.Nat.{_≤_, _<_};
 ghost use Rattle.machine.specs.Size.{sizes};
-ghost use Rattle.about.specs.Widths.{lowBytes, wideBytes, madeBytes, familyBytes, allowsSome, bytesAt, bytesBySize};
+ghost use Rattle.about.specs.Widths.{lowBytes, wideBytes, madeLaneBytes, familyBytes, allowsSome, bytesAt, bytesBySize};
 ghost use Rattle.about.specs.About.{needByte, readsDestination, writesPredicate, noAbout, aboutAnswer};
 
 // What is told of a row; with a refusal nothing.
@@ -110,8 +110,8 @@ fn wide_bytes(family: WideFamily, wide: bool, operand: Operand, w: usize) -> usi
 }
 
 // The bytes of an operand's lanes, of the families that make a predicate, whose bits govern lanes of w bytes.
-fn made_bytes(operand: Operand, w: usize) -> usize
-    ensures { λ r. ⌜ r ≡ madeBytes operand w ⌝ }
+fn made_lane_bytes(operand: Operand, w: usize) -> usize
+    ensures { λ r. ⌜ r ≡ madeLaneBytes operand w ⌝ }
 {
     match operand {
         Operand::First => 0,
@@ -128,7 +128,7 @@ fn family_bytes(family: Family, wide: bool, operand: Operand, w: usize) -> usize
     match family {
         Family::Low(low) => low_bytes(low, operand, w),
         Family::Wide(writes) => wide_bytes(writes, wide, operand, w),
-        Family::Made(_) => made_bytes(operand, w),
+        Family::Made(_) => made_lane_bytes(operand, w),
     }
 }
 

@@ -8,31 +8,17 @@ use lib.ListN.{replicate}
 use Rattle.lanes.specs.Lane.{widthOf, active}
 use Rattle.made.specs.Made.{madeByte, madeBytes}
 
--- every lane of sixteen bytes: 16 bytes, 8 half words, 4 words, 2 double words
-pub bytes-literal : madeBytes 2 0 16 ≡ 0xff ∷ 0xff ∷ []
+-- every lane of sixteen bytes: 16 bytes, 8 half words, 4 words, 2 double words; then three half words, and no lane at all
+pub made-literal : madeBytes 2 0 16 ∷ madeBytes 2 1 8 ∷ madeBytes 2 2 4 ∷ madeBytes 2 3 2 ∷ madeBytes 2 1 3 ∷ madeBytes 2 0 0 ∷ []
+    ≡ (0xff ∷ 0xff ∷ [])
+    ∷ (0x55 ∷ 0x55 ∷ [])
+    ∷ (0x11 ∷ 0x11 ∷ [])
+    ∷ (0x01 ∷ 0x01 ∷ [])
+    ∷ (0x15 ∷ 0x00 ∷ [])
+    ∷ (0x00 ∷ 0x00 ∷ [])
+    ∷ []
 unfolding madeBytes madeByte
-bytes-literal = refl
-
-pub half-words-literal : madeBytes 2 1 8 ≡ 0x55 ∷ 0x55 ∷ []
-unfolding madeBytes madeByte
-half-words-literal = refl
-
-pub words-literal : madeBytes 2 2 4 ≡ 0x11 ∷ 0x11 ∷ []
-unfolding madeBytes madeByte
-words-literal = refl
-
-pub double-words-literal : madeBytes 2 3 2 ≡ 0x01 ∷ 0x01 ∷ []
-unfolding madeBytes madeByte
-double-words-literal = refl
-
--- three half words, and no lane at all
-pub three-literal : madeBytes 2 1 3 ≡ 0x15 ∷ 0x00 ∷ []
-unfolding madeBytes madeByte
-three-literal = refl
-
-pub none-literal : madeBytes 2 0 0 ≡ 0x00 ∷ 0x00 ∷ []
-unfolding madeBytes madeByte
-none-literal = refl
+made-literal = refl
 
 -- every word of the longest vector
 pub longest-literal : madeBytes 32 2 64 ≡ replicate 32 0x11

@@ -19,7 +19,7 @@ returns-2 : tie.Need-returns-2
 returns-2 c = of-arm (bytesOf (c .before .before .before .before)) _ _ _ (c .before .before .family2 .given .1) (c .wide-bytes .ensures)
 
 returns-3 : tie.Need-returns-3
-returns-3 c = of-arm (bytesOf (c .before .before .before)) _ _ _ (c .before .enum-told .given .1) (c .made-bytes .ensures)
+returns-3 c = of-arm (bytesOf (c .before .before .before)) _ _ _ (c .before .enum-told .given .1) (c .made-lane-bytes .ensures)
 
 pub family-bytes-spec : {M : Type 1} → statement M
 family-bytes-spec =

@@ -90,16 +90,6 @@ returns-2 c =
 
 pub put-back-spec : {M : Type 1} → statement M
 put-back-spec =
-    tie.close
-    (tie.spec
-    (λ c. search needs)  -- shared-slice-read-kind-numbered
-    cast-kind-numbered
-    (λ c κs. search needs)  -- kind-numbered-requires
-    (λ c. search needs)  -- enum-told
-    restore-requires
-    (λ c. search needs)  -- enum-told-2
-    restore-requires-2
-    (λ c. search needs)  -- same-length
-    returns
-    (λ c. search needs)  -- same-length-2
-    returns-2)
+    let kind = tie.spec (λ c. search needs) cast-kind-numbered (λ c κs. search needs) in
+    let restored = kind (λ c. search needs) restore-requires (λ c. search needs) restore-requires-2 in
+    tie.close (restored (λ c. search needs) returns (λ c. search needs) returns-2)

@@ -39,23 +39,7 @@ returns c =
 
 pub encode-spec : {M : Type 1} → statement M
 encode-spec =
-    tie.close
-    (tie.spec
-    (λ c κs. search needs)  -- row-at-requires
-    (λ c. search needs)  -- cast-value
-    (λ c κs. search needs)  -- placed-requires
-    (λ c κs. search needs)  -- placed-requires-2
-    (λ c κs. search needs)  -- placed-requires-3
-    (λ c κs. search needs)  -- placed-requires-4
-    (λ c κs. search needs)  -- placed-requires-5
-    (λ c κs. search needs)  -- placed-requires-6
-    (λ c κs. search needs)  -- placed-requires-7
-    (λ c. search needs)  -- add-sum
-    (λ c. search needs)  -- add-sum-2
-    (λ c. search needs)  -- add-sum-3
-    (λ c. search needs)  -- add-sum-4
-    (λ c. search needs)  -- add-sum-5
-    (λ c. search needs)  -- add-sum-6
-    (λ c. search needs)  -- add-sum-7
-    (λ c. search needs)  -- cast-result
-    returns)
+    let row = tie.spec (λ c κs. search needs) (λ c. search needs) in
+    let placed = row (λ c κs. search needs) (λ c κs. search needs) (λ c κs. search needs) (λ c κs. search needs) (λ c κs. search needs) (λ c κs. search needs) (λ c κs. search needs) in
+    let sum = placed (λ c. search needs) (λ c. search needs) (λ c. search needs) (λ c. search needs) (λ c. search needs) (λ c. search needs) (λ c. search needs) in
+    tie.close (sum (λ c. search needs) returns)

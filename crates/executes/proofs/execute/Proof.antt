@@ -144,23 +144,7 @@ returns-3 c =
 
 pub execute-spec : {M : Type 1} → statement M
 execute-spec =
-    tie.close
-    (tie.spec
-    (λ c κs. search needs)  -- form-of-requires
-    (λ c. search needs)  -- enum-known-family
-    low-bytes-requires
-    (λ c. search needs)  -- slice-aggregate-write-register
-    write-register-requires
-    (λ c. search needs)  -- enum-known-family-2
-    write-lanes-requires
-    (λ c. search needs)  -- enum-known-family-3
-    lanes-for-requires
-    make-requires
-    (λ c. search needs)  -- same-length
-    (λ c. search needs)  -- same-length-2
-    returns
-    (λ c. search needs)  -- same-length-3
-    (λ c. search needs)  -- same-length-4
-    returns-2
-    (λ c. search needs)  -- same-length-5
-    returns-3)
+    let low = tie.spec (λ c κs. search needs) (λ c. search needs) low-bytes-requires (λ c. search needs) write-register-requires in
+    let others = low (λ c. search needs) write-lanes-requires (λ c. search needs) lanes-for-requires make-requires in
+    let first = others (λ c. search needs) (λ c. search needs) returns in
+    tie.close (first (λ c. search needs) (λ c. search needs) returns-2 (λ c. search needs) returns-3)

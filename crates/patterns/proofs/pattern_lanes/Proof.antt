@@ -35,18 +35,5 @@ returns-7 c =
 
 pub pattern-lanes-spec : {M : Type 1} → statement M
 pattern-lanes-spec =
-    tie.close
-    (tie.spec
-    (λ c κs. search needs)  -- power-within-requires
-    (λ c κs. search needs)  -- multiple-within-requires
-    (λ c κs. search needs)  -- multiple-within-requires-2
-    (λ c κs. search needs)  -- fixed-within-requires
-    (λ c κs. search needs)  -- doubling-of-requires
-    (λ c κs. search needs)  -- fixed-within-requires-2
-    returns
-    returns-2
-    returns-3
-    returns-4
-    returns-5
-    returns-6
-    returns-7)
+    let asked = tie.spec (λ c κs. search needs) (λ c κs. search needs) (λ c κs. search needs) (λ c κs. search needs) (λ c κs. search needs) (λ c κs. search needs) in
+    tie.close (asked returns returns-2 returns-3 returns-4 returns-5 returns-6 returns-7)

@@ -85,34 +85,7 @@ returns-7 c = let end = c .before .before in kind-put _ (other (end .before .bef
 
 pub put-pattern-spec : {M : Type 1} → statement M
 put-pattern-spec =
-    tie.close
-    (tie.spec
-    (λ c. search needs)  -- slice-aggregate-put-bytes
-    put-bytes-requires
-    (λ c. search needs)  -- slice-aggregate-put-numbered
-    put-numbered-requires
-    (λ c. search needs)  -- slice-aggregate-put-numbered-2
-    put-numbered-requires-2
-    (λ c. search needs)  -- slice-aggregate-put-bytes-2
-    put-bytes-requires-2
-    (λ c. search needs)  -- slice-aggregate-put-numbered-3
-    put-numbered-requires-3
-    (λ c. search needs)  -- slice-aggregate-put-numbered-4
-    (λ c κs. search needs)  -- doubling-of-requires
-    put-numbered-requires-4
-    (λ c. search needs)  -- slice-aggregate-put-numbered-5
-    put-numbered-requires-5
-    (λ c. search needs)  -- same-length
-    returns
-    (λ c. search needs)  -- same-length-2
-    returns-2
-    (λ c. search needs)  -- same-length-3
-    returns-3
-    (λ c. search needs)  -- same-length-4
-    returns-4
-    (λ c. search needs)  -- same-length-5
-    returns-5
-    (λ c. search needs)  -- same-length-6
-    returns-6
-    (λ c. search needs)  -- same-length-7
-    returns-7)
+    let texts = tie.spec (λ c. search needs) put-bytes-requires (λ c. search needs) put-numbered-requires (λ c. search needs) put-numbered-requires-2 (λ c. search needs) put-bytes-requires-2 in
+    let numbers = texts (λ c. search needs) put-numbered-requires-3 (λ c. search needs) (λ c κs. search needs) put-numbered-requires-4 (λ c. search needs) put-numbered-requires-5 in
+    let four = numbers (λ c. search needs) returns (λ c. search needs) returns-2 (λ c. search needs) returns-3 (λ c. search needs) returns-4 in
+    tie.close (four (λ c. search needs) returns-5 (λ c. search needs) returns-6 (λ c. search needs) returns-7)

@@ -17,16 +17,7 @@ lay-target-requires c κs =
 
 pub walk-fields-spec : {M : Type 1} → statement M
 walk-fields-spec =
-    tie.close
-    (tie.spec
-    (λ c κs. search needs)  -- kind-written-requires
-    lay-target-requires
-    (λ c. search needs)  -- same-length
-    (λ c. search needs)  -- same-length-2
-    (λ c. search needs)  -- same-length-3
-    (λ c. search needs)  -- returns
-    (λ c κs. search needs)  -- execute-requires
-    (λ c. search needs)  -- same-length-4
-    (λ c. search needs)  -- same-length-5
-    (λ c. search needs)  -- same-length-6
-    (λ c. search needs))  -- returns-2
+    let target = tie.spec (λ c κs. search needs) lay-target-requires in
+    let short = target (λ c. search needs) (λ c. search needs) (λ c. search needs) (λ c. search needs) in
+    let executed = short (λ c κs. search needs) in
+    tie.close (executed (λ c. search needs) (λ c. search needs) (λ c. search needs) (λ c. search needs))

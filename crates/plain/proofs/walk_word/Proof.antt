@@ -27,24 +27,8 @@ walk-fields-requires c κs =
 
 pub walk-word-spec : {M : Type 1} → statement M
 walk-word-spec =
-    tie.close
-    (tie.spec
-    (λ c κs. search needs)  -- check-files-requires
-    (λ c. search needs)  -- same-length
-    (λ c. search needs)  -- same-length-2
-    (λ c. search needs)  -- returns
-    (λ c κs. search needs)  -- decode-requires
-    (λ c. search needs)  -- enum-told
-    (λ c. search needs)  -- enum-told-2
-    (λ c. search needs)  -- enum-known-decoded
-    walk-fields-requires
-    (λ c. search needs)  -- same-length-3
-    (λ c. search needs)  -- same-length-4
-    (λ c. search needs)  -- returns-2
-    (λ c. search needs)  -- same-length-5
-    (λ c. search needs)  -- same-length-6
-    (λ c. search needs)  -- returns-3
-    (λ c. search needs)  -- same-length-7
-    (λ c. search needs)  -- same-length-8
-    (λ c. search needs)  -- same-length-9
-    (λ c. search needs))  -- returns-4
+    let files = tie.spec (λ c κs. search needs) (λ c. search needs) (λ c. search needs) (λ c. search needs) in
+    let word = files (λ c κs. search needs) (λ c. search needs) (λ c. search needs) (λ c. search needs) walk-fields-requires in
+    let unknown = word (λ c. search needs) (λ c. search needs) (λ c. search needs) in
+    let undefined = unknown (λ c. search needs) (λ c. search needs) (λ c. search needs) in
+    tie.close (undefined (λ c. search needs) (λ c. search needs) (λ c. search needs) (λ c. search needs))

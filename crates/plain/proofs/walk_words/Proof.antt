@@ -17,35 +17,10 @@ abbrev μ-loop : tie.MeasureT-loop
 
 pub walk-words-spec : {M : Type 1} → statement M
 walk-words-spec =
-    tie.close
-    (tie.spec
-    Inv-loop
-    μ-loop
-    (λ c κs. search needs)  -- vector-bytes-requires
-    (λ c. search needs)  -- add-bytes
-    (λ c. search needs)  -- loop-holds
-    (λ c. search needs)  -- add-end
-    (λ c. search needs)  -- same-length
-    (λ c. search needs)  -- same-length-2
-    (λ c. search needs)  -- same-length-3
-    (λ c. search needs)  -- returns
-    (λ c. search needs)  -- same-length-4
-    (λ c. search needs)  -- same-length-5
-    (λ c. search needs)  -- same-length-6
-    (λ c. search needs)  -- returns-2
-    (λ c κs. search needs)  -- word-at-requires
-    (λ c. search needs)  -- sub-walk-word
-    (λ c. search needs)  -- part-walk-word-start
-    (λ c. search needs)  -- part-walk-word-end
-    (λ c κs. search needs)  -- walk-word-requires
-    (λ c. search needs)  -- same-length-7
-    (λ c. search needs)  -- same-length-8
-    (λ c. search needs)  -- same-length-9
-    (λ c. search needs)  -- returns-3
-    (λ c. search needs)  -- add-i
-    (λ c. search needs)  -- loop-less
-    (λ c. search needs)  -- loop-again
-    (λ c. search needs)  -- same-length-10
-    (λ c. search needs)  -- same-length-11
-    (λ c. search needs)  -- same-length-12
-    (λ c. search needs))  -- returns-4
+    let start = tie.spec Inv-loop μ-loop (λ c κs. search needs) (λ c. search needs) (λ c. search needs) (λ c. search needs) in
+    let short = start (λ c. search needs) (λ c. search needs) (λ c. search needs) (λ c. search needs) in
+    let missing = short (λ c. search needs) (λ c. search needs) (λ c. search needs) (λ c. search needs) in
+    let word = missing (λ c κs. search needs) (λ c. search needs) (λ c. search needs) (λ c. search needs) (λ c κs. search needs) in
+    let refused = word (λ c. search needs) (λ c. search needs) (λ c. search needs) (λ c. search needs) in
+    let turn = refused (λ c. search needs) (λ c. search needs) (λ c. search needs) in
+    tie.close (turn (λ c. search needs) (λ c. search needs) (λ c. search needs) (λ c. search needs))

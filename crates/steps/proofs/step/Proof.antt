@@ -127,29 +127,9 @@ returns-4 c =
 
 pub step-spec : {M : Type 1} → statement M
 step-spec =
-    tie.close
-    (tie.spec
-    (λ c κs. search needs)  -- check-step-requires
-    (λ c. search needs)  -- same-length
-    (λ c. search needs)  -- same-length-2
-    (λ c. search needs)  -- same-length-3
-    returns
-    position-of-requires
-    word-at-requires
-    (λ c κs. search needs)  -- decode-requires
-    (λ c. search needs)  -- enum-told
-    (λ c. search needs)  -- enum-told-2
-    (λ c. search needs)  -- enum-known-decoded
-    perform-requires
-    (λ c. search needs)  -- same-length-4
-    (λ c. search needs)  -- same-length-5
-    (λ c. search needs)  -- same-length-6
-    returns-2
-    (λ c. search needs)  -- same-length-7
-    (λ c. search needs)  -- same-length-8
-    (λ c. search needs)  -- same-length-9
-    returns-3
-    (λ c. search needs)  -- same-length-10
-    (λ c. search needs)  -- same-length-11
-    (λ c. search needs)  -- same-length-12
-    returns-4)
+    let start-asked = tie.spec (λ c κs. search needs) (λ c. search needs) (λ c. search needs) (λ c. search needs) returns in
+    let word-asked = start-asked position-of-requires word-at-requires (λ c κs. search needs) in
+    let arms = word-asked (λ c. search needs) (λ c. search needs) (λ c. search needs) perform-requires in
+    let unknown = arms (λ c. search needs) (λ c. search needs) (λ c. search needs) returns-2 in
+    let undefined = unknown (λ c. search needs) (λ c. search needs) (λ c. search needs) returns-3 in
+    tie.close (undefined (λ c. search needs) (λ c. search needs) (λ c. search needs) returns-4)

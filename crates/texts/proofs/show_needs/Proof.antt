@@ -14,23 +14,6 @@ abbrev μ-loop : tie.MeasureT-loop
 
 pub show-needs-spec : {M : Type 1} → statement M
 show-needs-spec =
-    tie.close
-    (tie.spec
-    Inv-loop
-    μ-loop
-    (λ c κs. search needs)  -- size-on-each-requires
-    (λ c κs. search needs)  -- word-of-requires
-    (λ c. search needs)  -- cast-print-hex
-    (λ c κs. search needs)  -- print-hex-requires
-    (λ c. search needs)  -- slice-aggregate-write-all
-    (λ c κs. search needs)  -- write-all-requires
-    (λ c. search needs)  -- loop-holds
-    (λ c κs. search needs)  -- number-on-requires
-    (λ c. search needs)  -- cast-print-decimal
-    (λ c κs. search needs)  -- print-decimal-requires
-    (λ c. search needs)  -- add-byte
-    (λ c. search needs)  -- loop-less
-    (λ c. search needs)  -- loop-again
-    (λ c. search needs)  -- slice-aggregate-write-all-2
-    (λ c κs. search needs)  -- write-all-requires-2
-    (λ c. search needs))  -- returns
+    let start = tie.spec Inv-loop μ-loop (λ c κs. search needs) (λ c κs. search needs) (λ c. search needs) (λ c κs. search needs) (λ c. search needs) (λ c κs. search needs) in
+    let turn = start (λ c. search needs) (λ c κs. search needs) (λ c. search needs) (λ c κs. search needs) (λ c. search needs) (λ c. search needs) (λ c. search needs) in
+    tie.close (turn (λ c. search needs) (λ c κs. search needs) (λ c. search needs))
