@@ -302,7 +302,7 @@ static inline size_t ln_size_of(uint64_t bytes)
 
 /* The most bytes of stack that ln_step takes below its caller, with its return address and all that it
  * calls. It is measured, on the library's own code, and not proved. */
-#define LN_STEP_STACK 376
+#define LN_STEP_STACK 384
 
 /* The name of an answer number, as the enumeration has it: "DONE", "LENGTH" and so on. */
 static inline const char *ln_refusal_name(uint64_t number)

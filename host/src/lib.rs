@@ -86,7 +86,7 @@ pub const SESSION_HEADER_BYTES: usize = 9;
 pub const FORMER_SESSION_HEADER_BYTES: usize = 8;
 /// The most bytes of stack that the library's step takes below its caller: measured, not proved.
 /// What [`step`] itself adds is the compiler's.
-pub const STEP_STACK: usize = 376;
+pub const STEP_STACK: usize = 384;
 
 /// The bytes of a vector register; a predicate register has an eighth as many.
 ///
