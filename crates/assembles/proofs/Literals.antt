@@ -19,7 +19,7 @@ use Rattle.rows.proofs.Every.{every, at-each}
 use Rattle.words.specs.Decode.{decoded}
 use Rattle.words.specs.Encode.{encoded}
 use Rattle.digits.specs.Digits.{digitOf, digitsIn, widthWithin, decimalWidth}
-use Rattle.patterns.specs.Lanes.{kindOf}
+use Rattle.patterns.specs.Lanes.{patternKind}
 use Rattle.patterns.specs.Text.{patternText, namedFrom, patternNamed}
 use Rattle.operands.specs.Operands.{letterOf}
 use Rattle.names.specs.Text.{keyOf, nameOf, keyFrom, rowNamed, textOf}
@@ -34,7 +34,7 @@ use Rattle.assembles.proofs.Theorems.{text-exactly}
 pub words-literal : map (λ (text : List ℕ). wordOf (fieldsFrom text))
     (bytes "ptrue p3.h, vl16" ∷ bytes "ptrue p0.b, all" ∷ bytes "ptrue p15.d, #14" ∷ bytes "ptrue p7.s, mul3" ∷ bytes "pfalse p3.b" ∷ [])
     ≡ 0x2558E123 ∷ 0x2518E3E0 ∷ 0x25D8E1CF ∷ 0x2598E3C7 ∷ 0x2518E403 ∷ []
-unfolding rowAt keyOf keyFrom rowNamed pastSpace numberIn fromEnd encoded digitOf digitsIn widthWithin decimalWidth patternText kindOf namedFrom patternNamed
+unfolding rowAt keyOf keyFrom rowNamed pastSpace numberIn fromEnd encoded digitOf digitsIn widthWithin decimalWidth patternText patternKind namedFrom patternNamed
 words-literal = refl
 
 -- texts that the paper refuses: a number for a pattern that has a name, no pattern, another size of pfalse, and others that are nearly a text
@@ -59,7 +59,7 @@ otherwise i = not (sameBytes (textOfWord (wordOf (fieldsFrom (refusedText i)))) 
 
 all-otherwise : every 8 otherwise ≡ true
 unfolding otherwise decoded rowAt rowOf placeFrom matches digitsAnd textOf keyOf nameOf keyFrom rowNamed pastSpace numberIn fromEnd encoded digitOf digitsIn
-    widthWithin decimalWidth letterOf patternText kindOf namedFrom patternNamed
+    widthWithin decimalWidth letterOf patternText patternKind namedFrom patternNamed
 all-otherwise = refl
 
 -- so no word reads so, and the answer is TEXT

@@ -7,7 +7,7 @@ use Rattle.rows.specs.Digits.{digitsAnd}
 use Rattle.rows.specs.Table.{rowAt, rowOf, matches, placeFrom}
 use Rattle.words.specs.Decode.{decoded}
 use Rattle.digits.specs.Digits.{digitOf, digitsIn, widthWithin, decimalWidth}
-use Rattle.patterns.specs.Lanes.{kindOf}
+use Rattle.patterns.specs.Lanes.{patternKind}
 use Rattle.patterns.specs.Text.{patternText}
 use Rattle.operands.specs.Operands.{letterOf}
 use Rattle.names.specs.Text.{keyOf, nameOf, textOf}
@@ -54,5 +54,5 @@ pub example-texts : map textOfWord
     ∷ []
     ∷ []
     ∷ []
-unfolding decoded rowAt rowOf placeFrom matches digitsAnd textOf keyOf nameOf digitOf digitsIn widthWithin decimalWidth letterOf patternText kindOf
+unfolding decoded rowAt rowOf placeFrom matches digitsAnd textOf keyOf nameOf digitOf digitsIn widthWithin decimalWidth letterOf patternText patternKind
 example-texts = refl

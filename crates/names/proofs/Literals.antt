@@ -12,7 +12,7 @@ use Rattle.words.specs.Decode.{decoded}
 use Rattle.cores.specs.Need.{needOf}
 use Rattle.cores.specs.Core.{decodedOn}
 use Rattle.digits.specs.Digits.{digitOf, digitsIn, widthWithin, decimalWidth}
-use Rattle.patterns.specs.Lanes.{kindOf}
+use Rattle.patterns.specs.Lanes.{patternKind}
 use Rattle.patterns.specs.Text.{patternText}
 use Rattle.operands.specs.Operands.{letterOf}
 use Rattle.names.specs.Text.{keyOf, nameOf, textOf}
@@ -36,7 +36,7 @@ text-literal = refl
 -- ptrue p3.h, vl16
 pub pattern-literal : textOfWord 0x2558E123
     ≡ 0x70 ∷ 0x74 ∷ 0x72 ∷ 0x75 ∷ 0x65 ∷ 0x20 ∷ 0x70 ∷ 0x33 ∷ 0x2E ∷ 0x68 ∷ 0x2C ∷ 0x20 ∷ 0x76 ∷ 0x6C ∷ 0x31 ∷ 0x36 ∷ []
-unfolding decoded rowAt rowOf placeFrom matches digitsAnd textOf keyOf nameOf digitOf digitsIn widthWithin decimalWidth letterOf patternText kindOf
+unfolding decoded rowAt rowOf placeFrom matches digitsAnd textOf keyOf nameOf digitOf digitsIn widthWithin decimalWidth letterOf patternText patternKind
 pattern-literal = refl
 
 -- usubwt z31.d, z31.d, z31.s

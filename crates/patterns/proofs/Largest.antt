@@ -10,7 +10,7 @@ use lib.Dec.{leb}
 use lib.Pow.{pow-mono}
 use borrow.Author.Tests.{leb-true, leb-false, le-leb, lt-leb}
 use Rattle.patterns.specs.Lanes.{powerWithin, multipleWithin, fixedWithin, doubling, patternLanes, IsPower, IsMultiple, Largest}
-use Rattle.patterns.specs.Lanes.{Kind, power, fixed, multiple, all, none, kindLanes, kindOf}
+use Rattle.patterns.specs.Lanes.{PatternKind, power, fixed, multiple, all, none, kindLanes, patternKind}
 use Rattle.patterns.proofs.Powers.{Last, power-last}
 use Rattle.patterns.proofs.Patterns.{small-kind, large-kind, zero-kind, four-kind, three-kind, all-kind, other-kind, lanes-of-kind}
 
@@ -89,7 +89,7 @@ multiple-bounded : (n count : ℕ) → multipleWithin n count ≤ count
 unfolding multipleWithin
 multiple-bounded n count = omega arith
 
-kind-bounded : (kind : Kind) (count : ℕ) → 1 ≤ count → kindLanes kind count ≤ count
+kind-bounded : (kind : PatternKind) (count : ℕ) → 1 ≤ count → kindLanes kind count ≤ count
 kind-bounded power count h = power-last count h .within
 kind-bounded (fixed n) count h = fixed-bounded n count
 kind-bounded (multiple n) count h = multiple-bounded n count
@@ -98,4 +98,4 @@ kind-bounded none count h = omega arith
 
 pub lanes-bounded : (pattern count : ℕ) → 1 ≤ count → patternLanes pattern count ≤ count
 unfolding patternLanes
-lanes-bounded pattern count h = kind-bounded (kindOf pattern) count h
+lanes-bounded pattern count h = kind-bounded (patternKind pattern) count h

@@ -7,7 +7,7 @@ use mathlib.Core.List.{List, [], _∷_, _++_, map}
 use lib.ListN.{replicate}
 use Rattle.parts.specs.Text.{bytes}
 use Rattle.digits.specs.Digits.{digitOf, digitsIn, widthWithin, decimalWidth}
-use Rattle.patterns.specs.Lanes.{doubledWithin, powerWithin, multipleWithin, fixedWithin, kindOf, patternLanes}
+use Rattle.patterns.specs.Lanes.{doubledWithin, powerWithin, multipleWithin, fixedWithin, patternKind, patternLanes}
 use Rattle.patterns.specs.Text.{patterns, patternText, namedFrom, patternNamed}
 
 -- the numbers from one on, so many of them
@@ -39,7 +39,7 @@ pub lanes-literal : map lanesAt (2 ∷ 4 ∷ 8 ∷ 16 ∷ 32 ∷ 64 ∷ 128 ∷ 
     ∷ line 8 eight (0 ∷ 0 ∷ 0 ∷ 0 ∷ 0 ∷ []) (12 ∷ 12 ∷ 12 ∷ [])
     ∷ line 64 eight (16 ∷ 32 ∷ 64 ∷ 0 ∷ 0 ∷ []) (100 ∷ 99 ∷ 100 ∷ [])
     ∷ []
-unfolding patternLanes kindOf powerWithin doubledWithin multipleWithin fixedWithin
+unfolding patternLanes patternKind powerWithin doubledWithin multipleWithin fixedWithin
 lanes-literal = refl
 
 pub texts-literal : map patternText (upFrom patterns 0)
@@ -76,12 +76,12 @@ pub texts-literal : map patternText (upFrom patterns 0)
     ∷ bytes "mul3"
     ∷ bytes "all"
     ∷ []
-unfolding patternText kindOf digitOf digitsIn widthWithin decimalWidth
+unfolding patternText patternKind digitOf digitsIn widthWithin decimalWidth
 texts-literal = refl
 
 -- texts that are no pattern's: a named one by its number, no text, a number of lanes that no pattern fixes, capitals, a space, a leading zero
 pub none-named-literal : map patternNamed
     (bytes "#31" ∷ bytes "#5" ∷ bytes "#32" ∷ bytes "" ∷ bytes "vl9" ∷ bytes "vl512" ∷ bytes "ALL" ∷ bytes "all " ∷ bytes "#014" ∷ bytes "14" ∷ [])
     ≡ replicate 10 32
-unfolding patternNamed namedFrom patternText kindOf digitOf digitsIn widthWithin decimalWidth
+unfolding patternNamed namedFrom patternText patternKind digitOf digitsIn widthWithin decimalWidth
 none-named-literal = refl

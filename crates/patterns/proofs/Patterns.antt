@@ -7,38 +7,38 @@ use native.Mathlib.Omega.{arith}
 use lib.ListN.{length}
 use borrow.Author.Tests.{ne-eqb, le-leb, lt-leb}
 use Rattle.digits.specs.Put.{Put}
-use Rattle.patterns.specs.Lanes.{Kind, power, fixed, multiple, all, none, kindLanes, doubling, kindOf, patternLanes}
+use Rattle.patterns.specs.Lanes.{PatternKind, power, fixed, multiple, all, none, kindLanes, doubling, patternKind, patternLanes}
 use Rattle.patterns.specs.Text.{kindText, patternText}
 
 -- patterns 1 to 8, and 9 to 13
-pub small-kind : (pattern : ℕ) → 1 ≤ pattern → pattern ≤ 8 → kindOf pattern ≡ fixed pattern
-unfolding kindOf
+pub small-kind : (pattern : ℕ) → 1 ≤ pattern → pattern ≤ 8 → patternKind pattern ≡ fixed pattern
+unfolding patternKind
 small-kind pattern low high = rw (ne-eqb pattern 0 (λ e. omega arith), le-leb pattern 8 high)
 
-pub large-kind : (pattern : ℕ) → 9 ≤ pattern → pattern ≤ 13 → kindOf pattern ≡ fixed (doubling pattern)
-unfolding kindOf
+pub large-kind : (pattern : ℕ) → 9 ≤ pattern → pattern ≤ 13 → patternKind pattern ≡ fixed (doubling pattern)
+unfolding patternKind
 large-kind pattern low high = rw (ne-eqb pattern 0 (λ e. omega arith), lt-leb pattern 8 (omega arith), le-leb pattern 13 high)
 
 -- the four that are told by their own number
-pub zero-kind : kindOf 0 ≡ power
-unfolding kindOf
+pub zero-kind : patternKind 0 ≡ power
+unfolding patternKind
 zero-kind = refl
 
-pub four-kind : kindOf 29 ≡ multiple 4
-unfolding kindOf
+pub four-kind : patternKind 29 ≡ multiple 4
+unfolding patternKind
 four-kind = refl
 
-pub three-kind : kindOf 30 ≡ multiple 3
-unfolding kindOf
+pub three-kind : patternKind 30 ≡ multiple 3
+unfolding patternKind
 three-kind = refl
 
-pub all-kind : kindOf 31 ≡ all
-unfolding kindOf
+pub all-kind : patternKind 31 ≡ all
+unfolding patternKind
 all-kind = refl
 
 -- every other
-pub other-kind : (pattern : ℕ) → 13 < pattern → (pattern ≡ 29 → ⊥) → (pattern ≡ 30 → ⊥) → (pattern ≡ 31 → ⊥) → kindOf pattern ≡ none
-unfolding kindOf
+pub other-kind : (pattern : ℕ) → 13 < pattern → (pattern ≡ 29 → ⊥) → (pattern ≡ 30 → ⊥) → (pattern ≡ 31 → ⊥) → patternKind pattern ≡ none
+unfolding patternKind
 other-kind pattern low four three every =
     rw (
       ne-eqb pattern 0 (λ e. omega arith),
@@ -50,18 +50,18 @@ other-kind pattern low four three every =
     )
 
 -- the lanes and the text of a pattern whose kind is known
-pub lanes-of-kind : (pattern : ℕ) {kind : Kind} (count : ℕ) → kindOf pattern ≡ kind → kindLanes kind count ≡ patternLanes pattern count
+pub lanes-of-kind : (pattern : ℕ) {kind : PatternKind} (count : ℕ) → patternKind pattern ≡ kind → kindLanes kind count ≡ patternLanes pattern count
 unfolding patternLanes
-lanes-of-kind pattern count e = ap (λ (k : Kind). kindLanes k count) (sym e)
+lanes-of-kind pattern count e = ap (λ (k : PatternKind). kindLanes k count) (sym e)
 
-pub text-of-kind : (pattern : ℕ) {kind : Kind} → kindOf pattern ≡ kind → kindText kind pattern ≡ patternText pattern
+pub text-of-kind : (pattern : ℕ) {kind : PatternKind} → patternKind pattern ≡ kind → kindText kind pattern ≡ patternText pattern
 unfolding patternText
-text-of-kind pattern e = ap (λ (k : Kind). kindText k pattern) (sym e)
+text-of-kind pattern e = ap (λ (k : PatternKind). kindText k pattern) (sym e)
 
 -- room for a pattern's text is room for that of its kind, and the kind's text written is the pattern's
-pub kind-room : (pattern at : ℕ) {kind : Kind} {n : ℕ} → kindOf pattern ≡ kind → at + length (patternText pattern) ≤ n → at + length (kindText kind pattern) ≤ n
+pub kind-room : (pattern at : ℕ) {kind : PatternKind} {n : ℕ} → patternKind pattern ≡ kind → at + length (patternText pattern) ≤ n → at + length (kindText kind pattern) ≤ n
 kind-room pattern at e room = rw (text-of-kind pattern e) room
 
-pub kind-put : (pattern : ℕ) {kind : Kind} {old new : List ℕ} {at next : ℕ} → kindOf pattern ≡ kind → Put old at (kindText kind pattern) new next
+pub kind-put : (pattern : ℕ) {kind : PatternKind} {old new : List ℕ} {at next : ℕ} → patternKind pattern ≡ kind → Put old at (kindText kind pattern) new next
     → Put old at (patternText pattern) new next
 kind-put pattern e put = rw (← text-of-kind pattern e) put

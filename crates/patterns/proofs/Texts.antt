@@ -13,7 +13,7 @@ use Rattle.parts.specs.Part.{both, sameBytes}
 use Rattle.parts.proofs.Same.{both-left, both-right, same-true}
 use Rattle.digits.specs.Digits.{digitOf, digitsIn, widthWithin, decimalWidth}
 use Rattle.rows.proofs.Every.{every, at-each}
-use Rattle.patterns.specs.Lanes.{kindOf}
+use Rattle.patterns.specs.Lanes.{patternKind}
 use Rattle.patterns.specs.Text.{patterns, patternText, namedFrom, patternNamed}
 
 -- bytes with no space among them
@@ -25,7 +25,7 @@ textGood : ℕ → Bool
 textGood n = both (eqb (patternNamed (patternText n)) n) (both (leb (length (patternText n)) 5) (spaceless (patternText n)))
 
 texts-good : every patterns textGood ≡ true
-unfolding textGood patternNamed namedFrom patternText kindOf digitOf digitsIn widthWithin decimalWidth
+unfolding textGood patternNamed namedFrom patternText patternKind digitOf digitsIn widthWithin decimalWidth
 texts-good = refl
 
 -- a pattern's text names the pattern, has five bytes at most, and no space among them

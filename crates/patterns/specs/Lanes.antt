@@ -22,15 +22,15 @@ unfoldable pub fixedWithin : ℕ → ℕ → ℕ
 fixedWithin n count = cond (leb n count) n 0
 
 -- the kinds of patterns: the largest power of two, a fixed number of lanes, the largest multiple of a number, all lanes, none
-pub data Kind : Type 0 where
-  power : Kind
-  fixed : ℕ → Kind
-  multiple : ℕ → Kind
-  all : Kind
-  none : Kind
+pub data PatternKind : Type 0 where
+  power : PatternKind
+  fixed : ℕ → PatternKind
+  multiple : ℕ → PatternKind
+  all : PatternKind
+  none : PatternKind
 
 -- how many of so many lanes a kind names
-abbrev pub kindLanes : Kind → ℕ → ℕ
+abbrev pub kindLanes : PatternKind → ℕ → ℕ
 kindLanes power count = powerWithin count
 kindLanes (fixed n) count = fixedWithin n count
 kindLanes (multiple n) count = multipleWithin n count
@@ -43,8 +43,8 @@ doubling pattern = 16 * 2 ^ (pattern - 9)
 
 -- the kind of a pattern: 0 the largest power, 1 to 8 that many lanes, 9 to 13 from 16 to 256, 29 and 30 the largest multiples of 4 and of 3,
 -- 31 all, every other none
-unfoldable pub kindOf : ℕ → Kind
-kindOf pattern =
+unfoldable pub patternKind : ℕ → PatternKind
+patternKind pattern =
     cond (eqb pattern 0) power
     (cond (leb pattern 8) (fixed pattern)
     (cond (leb pattern 13) (fixed (doubling pattern))
@@ -54,7 +54,7 @@ kindOf pattern =
 
 -- how many lanes a pattern names, by the lane count
 unfoldable pub patternLanes : ℕ → ℕ → ℕ
-patternLanes pattern count = kindLanes (kindOf pattern) count
+patternLanes pattern count = kindLanes (patternKind pattern) count
 
 -- a power of two, and a multiple of a number
 pub record IsPower (n : ℕ) : Type 0 where

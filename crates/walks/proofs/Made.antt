@@ -17,7 +17,7 @@ use Rattle.words.specs.Decode.{decoded}
 use Rattle.cores.specs.Need.{needOf}
 use Rattle.cores.specs.Core.{decodedOn}
 use Rattle.digits.specs.Digits.{digitOf, digitsIn, widthWithin, decimalWidth}
-use Rattle.patterns.specs.Lanes.{kindOf, patternLanes}
+use Rattle.patterns.specs.Lanes.{patternKind, patternLanes}
 use Rattle.patterns.specs.Text.{patternText}
 use Rattle.operands.specs.Operands.{letterOf}
 use Rattle.names.specs.Text.{keyOf, nameOf, textOf}
@@ -45,7 +45,7 @@ program = 0xE0 ∷ 0xE3 ∷ 0x18 ∷ 0x25 ∷ 0x20 ∷ 0x20 ∷ 0x00 ∷ 0x04 �
 
 -- the first makes every lane of P0 active, and the second writes the sum 136 into Z0
 made : stateAfter 1 program 0 (state (vectors 0) (predicates 0)) ≡ state (vectors 0) (predicates 0xFF)
-unfolding decoded rowAt rowOf placeFrom matches digitsAnd targetOf effectOf kindOf patternLanes madeBytes madeByte
+unfolding decoded rowAt rowOf placeFrom matches digitsAnd targetOf effectOf patternKind patternLanes madeBytes madeByte
 made = refl
 
 summed : stateAfter 1 program 1 (state (vectors 0) (predicates 0xFF)) ≡ state (vectors 136) (predicates 0xFF)
@@ -60,7 +60,7 @@ abbrev pub summedLine : List ℕ
 summedLine = withNewline (bytes "1 0 saddv d0, p0, z1.b 00000000000000000000000000000088")
 
 made-line : stepLine 1 (state (vectors 0) (predicates 0xFF)) program 0 DONE ≡ madeLine
-unfolding stepLine hexOf digitOf digitsIn widthWithin decimalWidth decoded rowAt rowOf placeFrom matches digitsAnd textOf keyOf nameOf letterOf patternText kindOf targetOf
+unfolding stepLine hexOf digitOf digitsIn widthWithin decimalWidth decoded rowAt rowOf placeFrom matches digitsAnd textOf keyOf nameOf letterOf patternText patternKind targetOf
 made-line = refl
 
 summed-line : stepLine 1 (state (vectors 136) (predicates 0xFF)) program 1 DONE ≡ summedLine

@@ -3,22 +3,22 @@
 use borrow.Author.Needs.{needs}
 use mathlib.Core.Path.{_∙_, ap}
 use native.Mathlib.Omega.{arith}
-use Rattle.patterns.specs.Lanes.{kindOf}
+use Rattle.patterns.specs.Lanes.{patternKind}
 use Rattle.patterns.proofs.Patterns.{zero-kind, small-kind, large-kind, four-kind, three-kind, all-kind, other-kind, lanes-of-kind}
 use Rattle.patterns.proofs.pattern_lanes.Statement.{statement}
 use Rattle.patterns.proofs.pattern_lanes.Tie as tie
 
 returns : tie.Need-returns
-returns c = c .power-within .ensures ∙ lanes-of-kind _ _ (ap kindOf (c .before .match .keys1) ∙ zero-kind)
+returns c = c .power-within .ensures ∙ lanes-of-kind _ _ (ap patternKind (c .before .match .keys1) ∙ zero-kind)
 
 returns-2 : tie.Need-returns-2
-returns-2 c = c .multiple-within .ensures ∙ lanes-of-kind _ _ (ap kindOf (c .before .match .keys2) ∙ four-kind)
+returns-2 c = c .multiple-within .ensures ∙ lanes-of-kind _ _ (ap patternKind (c .before .match .keys2) ∙ four-kind)
 
 returns-3 : tie.Need-returns-3
-returns-3 c = c .multiple-within2 .ensures ∙ lanes-of-kind _ _ (ap kindOf (c .before .match .keys3) ∙ three-kind)
+returns-3 c = c .multiple-within2 .ensures ∙ lanes-of-kind _ _ (ap patternKind (c .before .match .keys3) ∙ three-kind)
 
 returns-4 : tie.Need-returns-4
-returns-4 c = lanes-of-kind _ _ (ap kindOf (c .match .keys4) ∙ all-kind)
+returns-4 c = lanes-of-kind _ _ (ap patternKind (c .match .keys4) ∙ all-kind)
 
 returns-5 : tie.Need-returns-5
 returns-5 c = c .fixed-within .ensures ∙ lanes-of-kind _ _ (small-kind _ (omega arith) (omega arith))

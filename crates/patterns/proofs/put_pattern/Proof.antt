@@ -3,27 +3,27 @@
 use borrow.Author.Needs.{needs}
 use mathlib.Core.Path.{_≡_, _∙_, ap}
 use native.Mathlib.Omega.{arith}
-use Rattle.patterns.specs.Lanes.{Kind, power, fixed, multiple, all, none, doubling, kindOf}
+use Rattle.patterns.specs.Lanes.{PatternKind, power, fixed, multiple, all, none, doubling, patternKind}
 use Rattle.patterns.proofs.Patterns.{zero-kind, small-kind, large-kind, four-kind, three-kind, all-kind, other-kind, kind-room, kind-put}
 use Rattle.patterns.proofs.put_pattern.Statement.{statement}
 use Rattle.patterns.proofs.put_pattern.Tie as tie
 
 -- the kind of the pattern that the function is called with
-abbrev Is : tie.After-slice-known → Kind → Type 0
-Is c kind = kindOf (c .before .args .pattern) ≡ kind
+abbrev Is : tie.After-slice-known → PatternKind → Type 0
+Is c kind = patternKind (c .before .args .pattern) ≡ kind
 
 -- each arm tells the kind
 first : (c : tie.At-match-keys1) → Is (c .before) power
-first c = ap kindOf (c .match .keys1) ∙ zero-kind
+first c = ap patternKind (c .match .keys1) ∙ zero-kind
 
 second : (c : tie.At-match-keys2) → Is (c .before) (multiple 4)
-second c = ap kindOf (c .match .keys2) ∙ four-kind
+second c = ap patternKind (c .match .keys2) ∙ four-kind
 
 third : (c : tie.At-match-keys3) → Is (c .before) (multiple 3)
-third c = ap kindOf (c .match .keys3) ∙ three-kind
+third c = ap patternKind (c .match .keys3) ∙ three-kind
 
 fourth : (c : tie.At-match-keys4) → Is (c .before) all
-fourth c = ap kindOf (c .match .keys4) ∙ all-kind
+fourth c = ap patternKind (c .match .keys4) ∙ all-kind
 
 small : (c : tie.Then1) → Is (c .before .before) (fixed (c .before .before .before .args .pattern))
 small c = small-kind _ (omega arith) (omega arith)
