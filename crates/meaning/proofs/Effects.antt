@@ -9,7 +9,8 @@ use lib.ListN.{length}
 use Rattle.machine.specs.Size.{vectors, vectorBytes}
 use Rattle.registers.specs.declared.Kind.{Kind}
 use Rattle.registers.specs.declared.Kind.the-variants.{Vector}
-use Rattle.registers.specs.Register.{Register, registerFrom, vector, predicate, IsRegister, registerCount, registerBytes, registerOf, vectorOf, predicateOf, withRegister, withVector}
+use Rattle.registers.specs.Register.{Register, registerFrom, vector, predicate, IsRegister, registerCount, registerBytes, registerOf}
+use Rattle.registers.specs.Register.{vectorOf, predicateOf, withRegister, withVector}
 use Rattle.registers.specs.State.{State, state, Sized, contents, withContents, read, write}
 use Rattle.registers.proofs.States.{length-read, write-sized, read-write}
 use Rattle.rows.specs.Table.{familyOf}

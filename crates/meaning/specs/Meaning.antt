@@ -20,11 +20,12 @@ lowTerms Reduction ps w q bytes mask e = reductionTerms (ps .signed) w bytes mas
 lowTerms Segment ps w q bytes mask e = segmentTerms w bytes mask e
 lowTerms Long ps w q bytes mask e = longTerms (ps .signed) w q
 
--- of those that write every lane; nothing feeds a predicate that is made
+-- of those that write every lane
 abbrev pub wideTerms : WideFamily → Parameters → ℕ → List ℕ → ℕ → List Term
 wideTerms Pairwise ps w mask e = pairwiseTerms (ps .signed) w mask e
 wideTerms Widening ps w mask e = wideningTerms ps w e
 
+-- of every family; nothing feeds a predicate that is made
 abbrev pub familyTerms : Family → Parameters → ℕ → ℕ → ℕ → List ℕ → ℕ → List Term
 familyTerms (Low low) ps w q bytes mask e = lowTerms low ps w q bytes mask e
 familyTerms (Wide wide) ps w q bytes mask e = wideTerms wide ps w mask e

@@ -130,6 +130,11 @@ module _ (c : Core) (program : List ℕ) (b : Buffers) (former : versionOf (b .j
       same-left (carriedOut (c .k) (fieldsNow program (b .journal)) b) (formerCarried (c .k) (fieldsNow program (b .journal)) b) b _ _ former-number
       (λ done. former-carried (c .k) (fieldsNow program (b .journal)) b (step-accepted c program b (step-number c program b ∙ done) .executes) vectors)
 
+-- so for every word of the twenty-three rows
+pub former-step-of-row : (c : Core) (program : List ℕ) (b : Buffers) → versionOf (b .journal) ≡ formerVersion → fieldsNow program (b .journal) .row < 23
+    → stepped c program b ≡ formerStep c program b
+former-step-of-row c program b former row = former-step c program b former (first-write-vectors (fieldsNow program (b .journal) .row) row)
+
 -- what a step back takes off is what it took off
 former-taken : (k : ℕ) (b : Buffers) → versionOf (b .journal) ≡ formerVersion → backRefused k b ≡ 0 → takenBack k b ≡ formerTaken k b
 former-taken k b former done =

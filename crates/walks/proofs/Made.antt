@@ -33,10 +33,10 @@ use Rattle.walks.specs.Paper.{AllAccepted, stateAfter, executedLines}
 use Rattle.walks.proofs.Executed.{walkCapacity, output-executed}
 
 -- a vector file whose Z0 starts with a byte, whose Z1 holds the bytes 1 to 16, and which has zeros else; a predicate file whose P0 has two bytes
-abbrev vectors : ℕ → List ℕ
+abbrev pub vectors : ℕ → List ℕ
 vectors b = b ∷ replicate 15 0 ++ 1 ∷ 2 ∷ 3 ∷ 4 ∷ 5 ∷ 6 ∷ 7 ∷ 8 ∷ 9 ∷ 10 ∷ 11 ∷ 12 ∷ 13 ∷ 14 ∷ 15 ∷ 16 ∷ replicate 480 0
 
-abbrev predicates : ℕ → List ℕ
+abbrev pub predicates : ℕ → List ℕ
 predicates b = b ∷ b ∷ replicate 30 0
 
 -- the two words
@@ -51,6 +51,18 @@ made = refl
 summed : stateAfter 1 program 1 (state (vectors 0) (predicates 0xFF)) ≡ state (vectors 136) (predicates 0xFF)
 unfolding decoded rowAt rowOf placeFrom matches digitsAnd targetOf sourceOf governingOf effectOf
 summed = refl
+
+-- at a narrower size the sum is not of every lane: of the same bytes `ptrue p0.h, all` and `uaddv d0, p0, z1.b` add every second one, which is 64
+abbrev pub narrower : List ℕ
+narrower = 0xE0 ∷ 0xE3 ∷ 0x58 ∷ 0x25 ∷ 0x20 ∷ 0x20 ∷ 0x01 ∷ 0x04 ∷ []
+
+pub narrower-made : stateAfter 1 narrower 0 (state (vectors 0) (predicates 0)) ≡ state (vectors 0) (predicates 0x55)
+unfolding decoded rowAt rowOf placeFrom matches digitsAnd targetOf effectOf patternKind patternLanes madeBytes madeByte
+narrower-made = refl
+
+pub narrower-summed : stateAfter 1 narrower 1 (state (vectors 0) (predicates 0x55)) ≡ state (vectors 64) (predicates 0x55)
+unfolding decoded rowAt rowOf placeFrom matches digitsAnd targetOf sourceOf governingOf effectOf
+narrower-summed = refl
 
 -- their lines
 abbrev pub madeLine : List ℕ

@@ -40,6 +40,7 @@ returns c =
 pub encode-spec : {M : Type 1} → statement M
 encode-spec =
     let row = tie.spec (λ c κs. search needs) (λ c. search needs) in
-    let placed = row (λ c κs. search needs) (λ c κs. search needs) (λ c κs. search needs) (λ c κs. search needs) (λ c κs. search needs) (λ c κs. search needs) (λ c κs. search needs) in
+    let four = row (λ c κs. search needs) (λ c κs. search needs) (λ c κs. search needs) (λ c κs. search needs) in
+    let placed = four (λ c κs. search needs) (λ c κs. search needs) (λ c κs. search needs) in
     let sum = placed (λ c. search needs) (λ c. search needs) (λ c. search needs) (λ c. search needs) (λ c. search needs) (λ c. search needs) (λ c. search needs) in
     tie.close (sum (λ c. search needs) returns)

@@ -85,7 +85,8 @@ returns-7 c = let end = c .before .before in kind-put _ (other (end .before .bef
 
 pub put-pattern-spec : {M : Type 1} → statement M
 put-pattern-spec =
-    let texts = tie.spec (λ c. search needs) put-bytes-requires (λ c. search needs) put-numbered-requires (λ c. search needs) put-numbered-requires-2 (λ c. search needs) put-bytes-requires-2 in
-    let numbers = texts (λ c. search needs) put-numbered-requires-3 (λ c. search needs) (λ c κs. search needs) put-numbered-requires-4 (λ c. search needs) put-numbered-requires-5 in
+    let multiples = tie.spec (λ c. search needs) put-bytes-requires (λ c. search needs) put-numbered-requires (λ c. search needs) put-numbered-requires-2 in
+    let fixed = multiples (λ c. search needs) put-bytes-requires-2 (λ c. search needs) put-numbered-requires-3 (λ c. search needs) (λ c κs. search needs) put-numbered-requires-4 in
+    let numbers = fixed (λ c. search needs) put-numbered-requires-5 in
     let four = numbers (λ c. search needs) returns (λ c. search needs) returns-2 (λ c. search needs) returns-3 (λ c. search needs) returns-4 in
     tie.close (four (λ c. search needs) returns-5 (λ c. search needs) returns-6 (λ c. search needs) returns-7)
