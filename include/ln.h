@@ -162,8 +162,9 @@ enum ln_number {
     LN_FILE = 2,      /* vector file not 512k bytes, or predicate file not 32k */
     LN_PROGRAM = 3,   /* program not whole words, or over 256 words */
     LN_ROOM = 4,      /* journal under 8 or over 65,536 bytes */
-    LN_JOURNAL = 5,   /* journal not well formed, or of a version that has no entry for the step; or ln_fresh was
-                         told a version that there is not */
+    LN_JOURNAL = 5,   /* journal not well formed, or of a version that has no entry for the step: which of the
+                         two, ln_position tells, as is said at ln_step; or ln_fresh was told a version that
+                         there is not */
     LN_END = 6,       /* the place is not below the number of words */
     LN_UNKNOWN = 7,   /* no row of the table matches the word */
     LN_UNDEFINED = 8, /* a row matches; its size is not allowed, or the facts lack what it needs: which of
@@ -207,7 +208,7 @@ enum ln_row {
     LN_USUBWB = 21,
     LN_USUBWT = 22,
     LN_PTRUE = 23, /* the bit of each lane of P<d> that the pattern makes active, and no other bit; 0 to 3 */
-    LN_PFALSE = 24 /* P<d> without a bit; size 0 */
+    LN_PFALSE = 24 /* no bit of P<d> is set; size 0 */
 };
 
 /* How many rows there are. */
@@ -352,7 +353,7 @@ static inline const char *ln_refusal_text(uint64_t number)
         "the vector file has not 512k bytes, or the predicate file not 32k",
         "the program is not whole words, or has over 256 of them",
         "the journal has under 8 or over 65,536 bytes",
-        "the journal is not well formed, or its version has no place for this",
+        "the journal is not well formed, or its version is not one that can do this",
         "the program has no word at this place",
         "no row of the table matches the word",
         "a row matches the word, but the size is not allowed or the facts lack what the row needs",
@@ -454,7 +455,7 @@ struct ln_entry {
 /* Which register an entry's target is, for ln_register_place: 1 for a predicate register, else 0; and its number
  * among the registers of its kind. */
 #define LN_IS_PREDICATE(target) ((target) >= LN_VECTOR_REGISTERS)
-#define LN_REGISTER_OF(target) ((target) - (LN_IS_PREDICATE(target) ? LN_VECTOR_REGISTERS : 0))
+#define LN_REGISTER_OF(target) ((target) % LN_VECTOR_REGISTERS)
 
 /* What the words of a row have in common. The five after the number are 1 or 0: whether lanes are read as
  * signed numbers; whether a word has a governing predicate g, a second source m and a q; and whether what
@@ -531,13 +532,24 @@ uint64_t ln_fresh(size_t k, uint64_t version, uint8_t *journal, size_t journal_l
 /* Executes the word at the journal's position and appends the destination's old bytes to the journal:
  * the position is one more then. `z` is the vector file, `p` the predicate file; a step writes one register
  * of one of them. The facts should be those of the journal's other steps.
+ *
+ * `p` is written by ptrue and pfalse, and by ln_back where it takes them back; in version 7 it was only read.
+ * So whatever the words are, it may be lent to one call at a time, may not lie in read-only memory and may not
+ * overlap anything else that is lent. Nor should it lie in a session's bytes, which would change with it: copy
+ * the predicate file out of them, as the vector file.
+ *
+ * LN_JOURNAL has two causes here, which ln_position tells apart. If that is LN_DONE, the journal is well formed:
+ * the word writes a predicate register, and the journal is of version 1, which has no number for one. The journal
+ * is good, and should be kept: its steps can be taken back. If ln_position is LN_JOURNAL too, the journal is not
+ * well formed.
  * LN_LENGTH, LN_FILE, LN_PROGRAM, LN_ROOM, LN_JOURNAL, LN_END, LN_UNKNOWN, LN_UNDEFINED; then LN_JOURNAL where
  * the word writes a predicate register and the journal is of the former version; LN_FULL. */
 uint64_t ln_step(size_t k, uint8_t facts, uint8_t *z, size_t z_len, uint8_t *p, size_t p_len,
                  const uint8_t *program, size_t program_len, uint8_t *journal, size_t journal_len);
 
 /* Takes the last step back: restores the last entry's bytes to the vector or the predicate register that it is
- * of, sets that entry to zeros and lowers the count: the position is one less then. It needs no facts.
+ * of, sets that entry to zeros and lowers the count: the position is one less then. It needs no facts. `p` is
+ * written where the step was one of ptrue or pfalse, and what ln_step says of lending it holds here too.
  * LN_LENGTH, LN_FILE, LN_ROOM, LN_JOURNAL, LN_EMPTY. */
 uint64_t ln_back(size_t k, uint8_t *z, size_t z_len, uint8_t *p, size_t p_len,
                  uint8_t *journal, size_t journal_len);

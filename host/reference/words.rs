@@ -33,7 +33,7 @@ pub enum Form {
     Widening { signed: bool, top: usize, wide: bool, subtract: bool },
     /// ptrue: a predicate of the lanes that a pattern tells
     Made,
-    /// pfalse: a predicate without a bit
+    /// pfalse: a predicate of which no bit is set
     Cleared,
 }
 

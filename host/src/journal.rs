@@ -6,6 +6,8 @@ use crate::{boundary, Facts, Refusal, Register};
 /// The version of a journal: which registers its entries can be of. Every call but [`fresh`] reads it in the
 /// journal itself.
 ///
+/// Later versions of the crate may have more, so a `match` needs an arm for the others.
+///
 /// ```
 /// use ghishmadul::{JournalVersion, Refusal};
 ///
@@ -15,6 +17,7 @@ use crate::{boundary, Facts, Refusal, Register};
 /// assert_eq!(JournalVersion::Current.number(), 2);
 /// ```
 #[derive(Clone, Copy, Debug, Default, PartialEq, Eq, PartialOrd, Ord, Hash)]
+#[non_exhaustive]
 pub enum JournalVersion {
     /// Version 1: entries of vectors alone. A library before version 8 reads and writes no other; in it a step
     /// that writes a predicate register is [`Refusal::Journal`].
@@ -26,7 +29,7 @@ pub enum JournalVersion {
 
 impl JournalVersion {
     /// Every version, the oldest first.
-    pub const ALL: [JournalVersion; 2] = [JournalVersion::Former, JournalVersion::Current];
+    pub const ALL: &'static [JournalVersion] = &[JournalVersion::Former, JournalVersion::Current];
 
     /// The version's number, as a journal has it: 1 or 2.
     pub const fn number(self) -> u64 {
@@ -44,8 +47,8 @@ impl TryFrom<u64> for JournalVersion {
     ///
     /// [`Refusal::Journal`] where there is no version with this number.
     fn try_from(number: u64) -> Result<JournalVersion, Refusal> {
-        let version = JournalVersion::ALL.into_iter().find(|version| version.number() == number);
-        version.ok_or(Refusal::Journal)
+        let version = JournalVersion::ALL.iter().find(|version| version.number() == number);
+        version.copied().ok_or(Refusal::Journal)
     }
 }
 
@@ -69,7 +72,8 @@ pub fn fresh(k: usize, version: JournalVersion, journal: &mut [u8]) -> Result<()
 ///
 /// [`Refusal::Length`], [`Refusal::File`], [`Refusal::Program`], [`Refusal::Room`], [`Refusal::Journal`],
 /// [`Refusal::End`], [`Refusal::Unknown`], [`Refusal::Undefined`]; [`Refusal::Journal`] again where the word
-/// writes a predicate register and the journal is of the former version; [`Refusal::Full`].
+/// writes a predicate register and the journal is of the former version, which [`position`] tells from the other
+/// cause; [`Refusal::Full`].
 ///
 #[doc = concat!("# Examples\n\n```\n", include_str!("../examples/moves.rs"), "```")]
 #[inline]

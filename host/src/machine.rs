@@ -116,7 +116,7 @@ impl Machine {
         &self.program
     }
 
-    /// The journal's bytes.
+    /// The journal's bytes, which are of the current version: [`JournalVersion::Current`].
     pub fn journal(&self) -> &[u8] {
         &self.journal
     }

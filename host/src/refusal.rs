@@ -29,6 +29,10 @@ pub enum Refusal {
     Room,
     /// 5: the journal is not well formed, or of a version that has no entry for the step; or a fresh one was told
     /// a version that there is not.
+    ///
+    /// Which of the first two a [`step`](crate::step) has, [`position`](crate::position) tells. If that is `Ok`, the
+    /// journal is well formed: the word writes a predicate register, and the journal is of version 1, which has no
+    /// number for one. The journal is good, and should be kept: its steps can be taken back.
     Journal,
     /// 6: the place is not below the number of words.
     End,
@@ -71,7 +75,7 @@ impl Refusal {
             }
             Program => (3, "PROGRAM", "the program is not whole words, or has over 256 of them"),
             Room => (4, "ROOM", "the journal has under 8 or over 65,536 bytes"),
-            Journal => (5, "JOURNAL", "the journal is not well formed, or its version has no place for this"),
+            Journal => (5, "JOURNAL", "the journal is not well formed, or its version is not one that can do this"),
             End => (6, "END", "the program has no word at this place"),
             Unknown => (7, "UNKNOWN", "no row of the table matches the word"),
             Undefined => (

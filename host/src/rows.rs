@@ -90,7 +90,7 @@ rows! {
     Usubwt "usubwt",
     /// A predicate register of the lanes that a pattern makes active; each other bit is cleared.
     Ptrue "ptrue",
-    /// A predicate register without a bit.
+    /// A predicate register of which no bit is set.
     Pfalse "pfalse",
 }
 

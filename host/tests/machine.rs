@@ -330,7 +330,7 @@ fn patterns_are_the_references() {
 /// A version has its number there and back, and its journals say it.
 #[test]
 fn versions_have_their_numbers() {
-    for version in JournalVersion::ALL {
+    for &version in JournalVersion::ALL {
         assert_eq!(JournalVersion::try_from(version.number()), Ok(version));
         let mut journal = [0xEE; 8];
         assert_eq!(fresh(1, version, &mut journal), Ok(()));
