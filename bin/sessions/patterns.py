@@ -7,10 +7,10 @@ NAMES = {POW2: "pow2", **{pattern: "vl%d" % lanes for pattern, lanes in FIXED.it
 NUMBERS = {name: pattern for pattern, name in NAMES.items()}
 MOST = 31
 
-# The manual's '#' with a number: in decimal without leading zeros, for an assembler takes those for another base, or in hex
-DECIMAL = "0|[1-9][0-9]{0,31}"
-IN_DIGITS = re.compile(r"#(?:0x([0-9a-f]{1,32})|(%s))\Z" % DECIMAL)
-SPELLED = "%s|#(?:%s)" % ("|".join(NUMBERS), DECIMAL)  # as named writes them, for any number
+# A number in hex, or in decimal without leading zeros, which some assemblers take for octal; the '#' before it is optional, as in the manual
+DIGITS = "#?(?:0x[0-9a-f]{1,32}|0|[1-9][0-9]{0,31})"
+IN_DIGITS = re.compile(DIGITS + r"\Z")
+SPELLED = "%s|%s" % ("|".join(NUMBERS), DIGITS)
 
 
 def named(pattern):
@@ -19,10 +19,9 @@ def named(pattern):
 
 
 def number_of(text):
-    """The number that a text, a name in lower case or '#' and digits, stands for, whatever its size; None where it is neither."""
-    digits = IN_DIGITS.match(text)
-    if digits:
-        return int(digits[1], 16) if digits[1] else int(digits[2])
+    """The number that a text, a name in lower case or digits with or without '#', stands for, whatever its size; None where it is neither."""
+    if IN_DIGITS.match(text):
+        return int(text.lstrip("#"), 16 if "0x" in text else 10)
     return NUMBERS.get(text)
 
 

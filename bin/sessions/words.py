@@ -22,7 +22,8 @@ WIDENING = Form(0xFF20FC00, "z{d}.{T}, z{n}.{H}, z{m}.{H}", "zN and zM have half
 WIDE = Form(0xFF20FC00, "z{d}.{T}, z{n}.{T}, z{m}.{H}", "zN has the width of zD, and zM half of it")
 # a predicate made by a pattern, and one without active lanes
 PTRUE = Form(0xFF3FFC10, "p{made}.{T}, {pattern}",
-             "a pattern is pow2, vl1 to vl8, vl16, vl32, vl64, vl128, vl256, mul4, mul3, all, or # with 0 to 31 in decimal or hex; without one it is all")
+             "a pattern is pow2, vl1 to vl8, vl16, vl32, vl64, vl128, vl256, mul4, mul3, all, or 0 to 31, with # or without, in decimal without leading "
+             "zeros or in hex; where there is none it is all")
 PFALSE = Form(0xFFFFFFF0, "p{made}.{T}", "it clears every bit, and is written with .b")
 MAKING = PTRUE, PFALSE
 
@@ -175,12 +176,12 @@ def exact(text):
 
 
 def with_pattern(operands):
-    """The operands of ptrue with the pattern as the paper writes it: all where none is given, and a name for a number that has one."""
+    """The operands of ptrue with the pattern as the paper writes it, all where none is given; a number that no pattern has stays as it is."""
     if WITHOUT_PATTERN.match(operands):
         operands += "," + patterns.named(patterns.ALL)
     register, comma, pattern = operands.partition(",")
     number = patterns.number_of(pattern)
-    return operands if number is None else register + comma + patterns.named(number)
+    return operands if number is None or number > patterns.MOST else register + comma + patterns.named(number)
 
 
 def assembled(text):
@@ -199,7 +200,7 @@ def pattern_in(given):
     """The number of a pattern in a text."""
     number = patterns.number_of(given)
     if number > patterns.MOST:
-        raise Bad("a pattern is #0 to #%d, or a name, not %s" % (patterns.MOST, echo(given)))
+        raise Bad("a pattern is 0 to %d, or a name, not %s" % (patterns.MOST, echo(given)))
     return number
 
 

@@ -1,4 +1,4 @@
-"""Predicates that a program makes: ptrue and pfalse in every spelling and no other, what the proved program leaves for every pattern, size and
+"""Predicates that a program makes: ptrue and pfalse in every spelling that is taken and no other, what the proved program leaves for every pattern, size and
 length, later words governed by it, and its lanes read back from the drawing; then wrong drawings, which must be found, and wrong lines."""
 import random
 from itertools import product
@@ -30,9 +30,11 @@ def spellings():
     """Every spelling of a word is taken and is the word, and the word is shown in one of them."""
     for size, pattern, d in product(range(4), range(32), (0, 3, 10, 15)):
         name, word = NAMES[pattern], ptrue(d, size, pattern)
-        patterns = [name, name.upper(), name.capitalize(), "#%d" % pattern, "#0x%x" % pattern, "#0X%X" % pattern, "#0x%04X" % pattern]
+        numbers = ["%d" % pattern, "0x%x" % pattern, "0X%X" % pattern, "0x%02x" % pattern, "0x%04X" % pattern]
+        patterns = [name, name.upper(), name.capitalize(), *numbers, *("#" + number for number in numbers)]
         texts = ["ptrue p%d.%s, %s" % (d, T[size], spelled) for spelled in patterns]
         texts += ["PTRUE\tP%d.%s,%s" % (d, T[size].upper(), name), "  ptrue  p%d . %s  ,  %s  " % (d, T[size], name)]
+        texts += ["ptrue p%d.%s,%d # %s" % (d, T[size], pattern, name), "0: %08x ptrue p%d.%s, %d" % (word, d, T[size], pattern)]
         if name == "all":
             texts += ["ptrue p%d.%s" % (d, T[size]), "PTRUE P%d.%s // every lane" % (d, T[size].upper())]
         spelled_alike(texts, word, "ptrue p%d.%s, %s" % (d, T[size], name))
@@ -47,20 +49,26 @@ def spelled_alike(texts, word, shown):
     expect(readable.text_of(session._replace(words=[word])) == PROGRAM + shown + "\n", hex(word), "is not shown as", shown)
 
 
-# operands that the manual has not
+# numbers that are no pattern's or are spelled in a way that is not taken, each with '#' and without
+NO_NUMBERS = [
+    "-1", "+1", "014", "00", "00x1", "1f", "1fh", "0b11", "0o17", "0x", "0x1g", "1.0", "1e1", "1_0", "1+1", "15-1", "(1)", "1 4", "0x 1",
+    "9" * 33, "9" * 50, "9" * 5000, "0x" + "f" * 33, "0x" + "f" * 50,
+]
+OVER_31 = ["32", "33", "255", "9" * 32, "0x20", "0x0020", "0xff", "0x" + "f" * 32]
+
+# operands that are not taken
 NO_PTRUE = [
     "", "p0", "p16.b", "p31.b", "p00.b", "p01.h", "p0.q", "p0.x", "p0.", "p0b", "p0/m", "p0/z", "z0.b", "v0.16b", "d0", "pn8.b", "p0.b,", ", all", "p0.b all",
     "p0.b, all,", "p0.b, all, all", "p0.b, p1.b", "p0.b, mul #4", "p0.b, all, mul #1",
     *("p0.b, " + pattern for pattern in (
-        "0", "5", "31", "0x1f", "#", "#32", "#33", "#0x20", "#255", "#-1", "#+1", "#014", "#00", "#1f", "#0b11", "#0x", "#1.0", "##1", "#all", "#vl1", "#pow2",
-        "#" + "9" * 50, "#" + "9" * 5000, "#0x" + "f" * 50, "vl", "vl0", "vl01", "vl9", "vl10", "vl15", "vl17", "vl512", "vl2048", "pow", "pow1", "pow4", "mul",
-        "mul1", "mul2", "mul5", "any", "none", "alls", "a")),
+        *(sign + number for sign in ("", "#") for number in NO_NUMBERS), "#", "##1", "# 1", "1#", "#all", "#vl1", "#pow2", "vl", "vl0", "vl01", "vl9", "vl10",
+        "vl15", "vl17", "vl512", "vl2048", "pow", "pow1", "pow4", "mul", "mul1", "mul2", "mul5", "any", "none", "alls", "a")),
 ]
-NO_PFALSE = ["", "p0", "p0.h", "p0.s", "p0.d", "p16.b", "p00.b", "p0.b, all", "p0.b,", "p0/m", "z0.b", "p0.b, #31", "pn0.b"]
+NO_PFALSE = ["", "p0", "p0.h", "p0.s", "p0.d", "p16.b", "p00.b", "p0.b, all", "p0.b,", "p0/m", "z0.b", "p0.b, #31", "p0.b, 31", "pn0.b"]
 
 
 def no_spellings():
-    """What the manual has not is refused, with its line and a plain reason of one line that says what there is."""
+    """What is not taken is refused, with its line and a plain reason of one line that says what there is; a number over 31 as it was written."""
     for name, operands in [("ptrue", text) for text in NO_PTRUE] + [("pfalse", text) for text in NO_PFALSE]:
         text = PROGRAM + name + " " + operands
         try:
@@ -68,23 +76,27 @@ def no_spellings():
             expect(False, text[:60], "is taken")
         except saying.Bad as bad:
             expect(bad.line == 3 and len(str(bad)) < 400 and str(bad).isprintable(), text[:60], "is refused as", str(bad))
-            expect(any(part in str(bad) for part in (name + " pD.b", "p0 to p15", "leading zero", "#0 to #31")), text[:60], "is refused as", str(bad))
+            expect(any(part in str(bad) for part in (name + " pD.b", "p0 to p15", "leading zero")), text[:60], "is refused as", str(bad))
     make("-", stdin=(PROGRAM + "ptrue p16.b").encode()).expect(3, "line 3: a predicate is p0 to p15, not 'p16'", out=b"")
-    make("-", stdin=(PROGRAM + "ptrue p0.b, #32").encode()).expect(3, "line 3: a pattern is #0 to #31, or a name, not '#32'", out=b"")
+    for number in OVER_31:
+        for written in (number, "#" + number):
+            make("-", stdin=(PROGRAM + "ptrue p0.b, " + written).encode()).expect(3, "line 3: a pattern is 0 to 31, or a name, not '%s'\n" % written, out=b"")
     make("-", stdin=(PROGRAM + "pfalse p0.h").encode()).expect(3, "line 3: 'pfalse p0.h' is none of the forms of pfalse", "pfalse pD.b", out=b"")
     make("-", stdin=(PROGRAM + "ptruep0.b").encode()).expect(3, "line 3: a space is missing after ptrue: write 'ptrue p0.b'", out=b"")
     make("-", stdin=b"k 1\nptrue p0.b").expect(3, "line 2: the words stand after a line 'program'", out=b"")
 
 
 def disassembled():
-    """A disassembler's lines: the pattern left out or in hex beside its word; another instruction of the name counts by its word alone."""
+    """A disassembler's lines: the pattern left out, in hex or without '#' beside its word; another instruction of the name counts by its word alone."""
     listing = ("   0:\t2518e3e0 \tptrue\tp0.b\n   4:\t2558e1c1 \tptrue\tp1.h, #0xe\n   8: c2 e1 98 25  \tptrue\tp2.s, #14\n   c:\t2518e403 \tpfalse\tp3.b\n"
-               "  10:\t25d8e003 \tptrue\tp3.d, pow2\n  14:\tptrue\tp4.b, vl3\n  18:\t25207810 \tptrue\tpn8.b\n")
+               "  10:\t25d8e003 \tptrue\tp3.d, pow2\n  14:\tptrue\tp4.b, vl3\n  18:\t25207810 \tptrue\tpn8.b\n"
+               "  1c:\t2518e1c0 \tptrue\tp0.b, 14\n  20: c0 e1 18 25  \tptrue\tp0.b, 0xe\n  24:\tptrue\tp0.b, 0x0e\n")
     session = make("-", stdin=(PROGRAM + listing).encode()).expect(0).out
     shown = "ptrue p0.b, all\nptrue p1.h, #14\nptrue p2.s, #14\npfalse p3.b\nptrue p3.d, pow2\nptrue p4.b, vl3\n.inst 0x25207810  # 7 UNKNOWN\n"
+    shown += "ptrue p0.b, #14\n" * 3
     show("-", stdin=session).expect(0, out=(PROGRAM + shown).encode())
     for line, reads in (("0: 2518e3e0 ptrue p0.b, vl8", "reads 'ptrue p0.b, all'"), ("0: 2518e3e0 pfalse p0.b", "reads 'ptrue p0.b, all'"),
-                        ("0: 2518e3f0 ptrue p0.b", "is not accepted")):
+                        ("0: 2518e3f0 ptrue p0.b", "is not accepted"), ("0: 2518e1c0 ptrue p0.b, 15", "reads 'ptrue p0.b, #14'")):
         make("-", stdin=(PROGRAM + line).encode()).expect(3, reads, out=b"")
 
 

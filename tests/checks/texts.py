@@ -24,7 +24,8 @@ SAME = [
     (PROGRAM + "  saddv\td0 ,p0,  z1 . b \n", PROGRAM + "saddv d0, p0, z1.b\n"),
     (PROGRAM + "sadalp z3.h,p1 / m,z1.b\n", PROGRAM + "sadalp z3.h, p1/m, z1.b\n"),
     (PROGRAM + "SSUBLB Z0.H,Z1.B , Z2.B\nusubwt\tz3.d,z3.d,z4.s\n", PROGRAM + ".inst 0x45421020\n.inst 0x45c45c63\n"),
-    (PROGRAM + "ptrue p3.h\nPTRUE\tP3.H , ALL # every lane\nptrue p3.h,#31\nptrue p3.h, #0x1f\n", PROGRAM + ".inst 0x2558e3e3\n" * 4),
+    (PROGRAM + "ptrue p3.h\nPTRUE\tP3.H , ALL # every lane\nptrue p3.h,#31\nptrue p3.h, #0x1f\nptrue p3.h,31\nptrue p3.h, 0X1F # all\n",
+     PROGRAM + ".inst 0x2558e3e3\n" * 6),
     (PROGRAM + "ptrue p0.s, #14 # no lane\nPFalse p3 .b\n", PROGRAM + ".inst 0x2598e1c0\n.inst 0x2518e403\n"),
     (PROGRAM + ".inst 0x04002020\n", PROGRAM + "saddv d0, p0, z1.b\n"),
     (PROGRAM + ".inst 0x4002020\n.word 04C02020\n", PROGRAM + ".word 0x04002020\n.inst 04c02020\n"),
@@ -148,8 +149,9 @@ REFUSED = [
     (PROGRAM + "saddv", 3, "none of the forms"),
     (PROGRAM + "saddv d#, p#, z#.b", 3, "none of the forms"),
     (PROGRAM + "ptrue p16.b", 3, "a predicate is p0 to p15, not 'p16'"),
-    (PROGRAM + "ptrue p0.b, #32", 3, "a pattern is #0 to #31, or a name, not '#32'"),
-    (PROGRAM + "ptrue p0.b, 31", 3, "or # with 0 to 31 in decimal or hex; without one it is all): ptrue pD.b, pattern; ptrue pD.h, pattern"),
+    (PROGRAM + "ptrue p0.b, #32", 3, "a pattern is 0 to 31, or a name, not '#32'"),
+    (PROGRAM + "ptrue p0.b, 0x20", 3, "a pattern is 0 to 31, or a name, not '0x20'"),
+    (PROGRAM + "ptrue p0.b, 031", 3, "in decimal without leading zeros or in hex; where there is none it is all): ptrue pD.b, pattern; ptrue pD.h, pattern"),
     (PROGRAM + "ptrue p0.b, # every lane", 3, "'ptrue p0.b,' is none of the forms of ptrue"),
     (PROGRAM + "pfalse p0.h", 3, "pfalse (it clears every bit, and is written with .b): pfalse pD.b"),
     (PROGRAM + "ret", 3, "the names are saddv, uaddv, addqv"),
@@ -223,7 +225,7 @@ def refused(text, line, reason):
 PIECES = [
     "k", "k 1", "k 16", "facts", "facts sve sme2p1", "sve2", "z1", "z1.h", "z31.d", "p0", "p0.h", "p15.b", "all", "none", "program", "saddv", "d0", "p0,", "z1.b",
     ",", "/m", ".inst", ".word", "0x04002020", "04c02020", "0:", "20 20 00 04", "saddv d0, p0, z1.b", "sadalp z3.h, p1/m, z1.b", "uaddlv h2, v1.8b",
-    "ssublb z0.h, z1.b, z2.b", "saddwb", "ptrue", "ptrue p0.b,", "pfalse p3.b", "vl16", "#31", "#0x1f", "-1", "0x", "-", "#", "#1", "//", ";", "\n", "\n", "\n",
+    "ssublb z0.h, z1.b, z2.b", "saddwb", "ptrue", "ptrue p0.b,", "pfalse p3.b", "vl16", "#31", "31", "#0x1f", "-1", "0x", "-", "#", "#1", "//", ";", "\n", "\n", "\n",
     " ", "\t", "\r", "\0", "\x1b", "\u00b2", "\u0663", "\ufeff", "9" * 50, "<a>:", "...", "(", "\\", "%s", "{d}", "z1.", "p.", ".",
 ]
 
