@@ -65,12 +65,13 @@ sourceOperand (Wide Pairwise) full number f = operand (code "z") number (Lane (f
 sourceOperand (Wide Widening) full number f = operand (code "z") number (Lane (cond full (f .size) (f .size - 1)))
 sourceOperand (Made made) full number f = operand (code "z") number (Lane (f .size))
 
--- an operand after others, with a comma and a space before it, where its field has digits
-abbrev pub further : ℕ → Operand → List ℕ
-further zero o = []
-further (suc digits) o = bytes ", " ++ operandText o
+-- a text after others, with a comma and a space before it, where its field has digits; an operand, and a pattern, so written
+abbrev pub afterComma : ℕ → List ℕ → List ℕ
+afterComma zero text = []
+afterComma (suc digits) text = bytes ", " ++ text
 
--- a pattern after the operands, with a comma and a space before it, where its field has digits
+abbrev pub further : ℕ → Operand → List ℕ
+further digits o = afterComma digits (operandText o)
+
 abbrev pub furtherPattern : ℕ → ℕ → List ℕ
-furtherPattern zero pattern = []
-furtherPattern (suc digits) pattern = bytes ", " ++ patternText pattern
+furtherPattern digits pattern = afterComma digits (patternText pattern)

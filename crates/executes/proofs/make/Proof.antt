@@ -2,28 +2,15 @@
 -- Assumes nothing.
 use borrow.Author.Needs.{needs}
 use Prim.Native.Nat.{ℕ, _+_, _-_, _≤_}
-use mathlib.Core.Path.{_≡_, _∙_}
-use mathlib.Core.List.{List}
-use native.Mathlib.Nat.{add-sub-cancel-left}
 use native.Mathlib.Omega.{arith}
 use denote.Ref.{now}
-use lib.ListN.{length, take, drop}
-use borrow.Rule.Slice.PartMut.{putMid}
-use Rattle.machine.specs.Size.{predicateBytes}
-use Rattle.parts.proofs.Put.{put-part}
+use lib.ListN.{length}
 use Rattle.registers.specs.declared.Kind.the-variants.{Predicate}
-use Rattle.registers.specs.Register.{registerBytes, registerAt, withRegister, InFile}
-use Rattle.registers.proofs.Places.{register-inside, length-register}
+use Rattle.registers.proofs.Places.{register-inside}
+use Rattle.registers.proofs.Back.{put-register}
 use Rattle.made.specs.Made.{madeBytes}
 use Rattle.executes.proofs.make.Statement.{statement}
 use Rattle.executes.proofs.make.Tie as tie
-
--- the register's bytes given back with a made predicate in their place
-put-made : (k d at bytes size lanes : ℕ) (p back : List ℕ) → InFile k Predicate d p → at ≡ registerAt k Predicate d → bytes ≡ registerBytes k Predicate
-    → back ≡ madeBytes (length (take (at + bytes - at) (drop at p))) size lanes
-    → putMid at (at + bytes - at) p back ≡ withRegister k Predicate d (madeBytes (predicateBytes k) size lanes) p
-put-made k d at bytes size lanes p back h place width is =
-    put-part at (at + bytes) p back (omega arith) ∙ rw (is, add-sub-cancel-left at bytes, place, width, length-register k Predicate d p h)
 
 -- the register ends within the file
 within : (c : tie.After-register-bytes) → c .before .register-at .result + c .register-bytes .result ≤ length (now (c .before .before .before .args .p))
@@ -42,9 +29,10 @@ returns c =
     let w = c .before .before in
     let place = w .before .before .before in
     let s = place .before .before in
-    put-made (s .args .k) (s .args .d) (place .register-at .result) (w .before .before .register-bytes .result) (s .args .size) (s .args .lanes)
+    put-register (s .args .k) Predicate (s .args .d) (place .register-at .result) (w .before .before .register-bytes .result)
     (now (s .args .p))
     (w .put-made .last .0)
+    (λ (n : ℕ). madeBytes n (s .args .size) (s .args .lanes))
     (s .pre .0)
     (place .register-at .ensures)
     (w .before .before .register-bytes .ensures)

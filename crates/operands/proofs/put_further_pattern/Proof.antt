@@ -1,21 +1,15 @@
 -- `put_further_pattern` meets its contract: nothing where the field has no digits, else the comma, the space and the pattern.
 -- Assumes nothing.
 use borrow.Author.Needs.{needs}
-use mathlib.Core.Path.{_≡_, refl}
 use mathlib.Core.List.{_++_}
-use Prim.Native.Nat.{ℕ, zero, suc, _+_, _≤_}
+use Prim.Native.Nat.{_+_, _≤_}
 use lib.ListN.{length}
 use Rattle.parts.specs.Text.{bytes}
-use Rattle.digits.proofs.Puts.{put-then, put-none, room-first, room-rest}
+use Rattle.digits.proofs.Puts.{put-none, room-first, room-rest}
 use Rattle.patterns.specs.Text.{patternText}
-use Rattle.operands.specs.Operands.{furtherPattern}
+use Rattle.operands.proofs.Further.{comma-room, comma-put}
 use Rattle.operands.proofs.put_further_pattern.Statement.{statement}
 use Rattle.operands.proofs.put_further_pattern.Tie as tie
-
--- a pattern whose field has digits
-further-some : (digits pattern : ℕ) → (digits ≡ 0 → ⊥) → furtherPattern digits pattern ≡ bytes ", " ++ patternText pattern
-further-some zero pattern h = absurd (h refl)
-further-some (suc digits) pattern h = refl
 
 returns : tie.Need-returns
 returns c = rw (c .if1 .taken) (put-none _ _)
@@ -31,7 +25,7 @@ abbrev comma : tie.After-put-pattern-arg → tie.After-put-bytes
 comma c = c .before .before .before
 
 room : (c : tie.Else1) → start c .args .at + length (bytes ", " ++ patternText (start c .args .pattern)) ≤ length (start c .args .out .now)
-room c = rw (further-some _ (start c .args .pattern) (c .if1 .left)) at (start c .pre)
+room c = comma-room _ (patternText (start c .args .pattern)) (c .if1 .left) (start c .args .at) (start c .pre)
 
 put-bytes-requires : tie.Need-put-bytes-requires
 put-bytes-requires c κs = room-first _ (bytes ", ") (patternText (start (c .before .before) .args .pattern)) (room (c .before .before))
@@ -45,7 +39,7 @@ returns-2 : tie.Need-returns-2
 returns-2 c =
     let end = c .before .before in
     let at = comma (end .before) in
-    rw (further-some _ _ (there at .if1 .left)) (put-then (at .put-bytes .ensures) (end .put-pattern .ensures))
+    comma-put _ (patternText (start (there at) .args .pattern)) (there at .if1 .left) (at .put-bytes .ensures) (end .put-pattern .ensures)
 
 pub put-further-pattern-spec : {M : Type 1} → statement M
 put-further-pattern-spec =

@@ -2,26 +2,14 @@
 -- Assumes nothing.
 use borrow.Author.Needs.{needs}
 use Prim.Native.Nat.{ℕ, _+_, _-_, _≤_}
-use mathlib.Core.Path.{_≡_, _∙_}
-use mathlib.Core.List.{List}
-use native.Mathlib.Nat.{add-sub-cancel-left}
 use native.Mathlib.Omega.{arith}
 use denote.Ref.{now}
-use lib.ListN.{length, take, drop}
-use borrow.Rule.Slice.PartMut.{putMid}
-use Rattle.parts.proofs.Put.{put-part}
-use Rattle.registers.specs.declared.Kind.{Kind}
-use Rattle.registers.specs.Register.{registerBytes, registerAt, withRegister, padded, InFile}
-use Rattle.registers.proofs.Places.{register-inside, length-register}
+use lib.ListN.{length}
+use Rattle.registers.specs.Register.{padded}
+use Rattle.registers.proofs.Places.{register-inside}
+use Rattle.registers.proofs.Back.{put-register}
 use Rattle.registers.proofs.write_register.Statement.{statement}
 use Rattle.registers.proofs.write_register.Tie as tie
-
--- the register's bytes given back with others in their place
-put-register : (k : ℕ) (kind : Kind) (r at bytes : ℕ) (file source back : List ℕ) → InFile k kind r file → at ≡ registerAt k kind r → bytes ≡ registerBytes k kind
-    → back ≡ padded (length (take (at + bytes - at) (drop at file))) source
-    → putMid at (at + bytes - at) file back ≡ withRegister k kind r (padded (registerBytes k kind) source) file
-put-register k kind r at bytes file source back h place width is =
-    put-part at (at + bytes) file back (omega arith) ∙ rw (is, add-sub-cancel-left at bytes, place, width, length-register k kind r file h)
 
 -- where the function starts
 abbrev start : tie.After-shared-slice-known → tie.Start
@@ -46,8 +34,8 @@ returns c =
     let s = start (place .before) in
     put-register (s .args .k) (s .args .kind) (s .args .r) (place .register-at .result) (w .before .before .register-bytes .result)
     (now (s .args .file))
-    (now (s .args .source))
     (w .write .last .0)
+    (λ (n : ℕ). padded n (now (s .args .source)))
     (s .pre .0)
     (place .register-at .ensures)
     (w .before .before .register-bytes .ensures)
