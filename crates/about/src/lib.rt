@@ -1,5 +1,7 @@
 // What a row is: the sign of its elements, which fields its words have, whether they read their destination, what they need of a core, the
 // bytes of the lanes that they read and write, by their size, and whether what they write is a predicate.
+#![tactic(auto)]
+
 ghost use Rattle.std.specs.Prelude.{◌≡◌, ◌≤◌, ◌<◌};
 ghost use Rattle.machine.specs.Size.{sizes};
 ghost use Rattle.about.specs.Widths.{low_bytes, wide_bytes, made_lane_bytes, family_bytes, allows_some, bytes_at, bytes_by_size};

@@ -1,4 +1,6 @@
 // What writes a journal: a fresh one, the entry of a register of either kind appended, and the last entry given up and put back into its register.
+#![tactic(auto)]
+
 ghost use Rattle.std.specs.Prelude.{◌≡◌, ◌+◌, ◌≤◌, length, get_or, replicate};
 ghost use Rattle.parts.specs.Part.{part, with_part};
 ghost use Rattle.machine.specs.Size.{most_length};
@@ -33,7 +35,7 @@ pub fn put_fresh(k: usize, version: usize, journal: &mut [u8])
 {
     clear(journal);
     let heading = entries::heading(version, k);
-    bytes::copy(&heading, journal);
+    parts::overwrite(journal, 0, &heading);
 }
 
 // Writes a register's old bytes into the bytes of an entry, and zeros after those of a predicate.

@@ -1,4 +1,6 @@
 // Text to word: the fields are read leniently, the word with these fields is named on the core, and its text must be the bytes that were given.
+#![tactic(auto)]
+
 ghost use Rattle.std.specs.Prelude.{◌≡◌, ◌+◌, ◌*◌, ◌-◌, ◌%◌, ◌≤◌, ◌^◌, length, drop};
 ghost use Rattle.machine.specs.Size.{sizes};
 ghost use Rattle.words.specs.Field.{register_digits, q_place};
@@ -130,7 +132,7 @@ pub fn assemble(text: &[u8], facts: Facts) -> Answer
     let named = names::text(word, facts, &mut line);
     let count = named.value as usize;
     if named.number == refusal::DONE {
-        if check::same(&line[..count], text) {
+        if parts::same_bytes(&line[..count], text) {
             return Answer {
                 number: refusal::DONE,
                 value,

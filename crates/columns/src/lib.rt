@@ -1,5 +1,7 @@
 // The sums of addqv: a register's segments added one after the other into a row of sixteen bytes, each active lane at its place. No panel is made
 // and no part of the register is copied.
+#![tactic(auto)]
+
 ghost use Rattle.std.specs.Prelude.{◌≡◌, ◌+◌, ◌*◌, ◌/◌, ◌%◌};
 ghost use Rattle.lanes.specs.Lane.{lane as laneAt, with_lane, from_lanes, LaneIn};
 ghost use Rattle.sums.specs.Panel.{per_segment, column_sum, GovernedSegments};

@@ -52,7 +52,7 @@ verdict facts word = by (decoded word) refl
 
 -- accepted with these fields exactly where it decodes to them and the core has what its row needs
 pub accepted_exactly : (facts : Facts) (word : ℕ) (f : Fields) → decoded_on facts word ≡ Word f ↔ Granted facts word f
-accepted_exactly facts word f = (by (verdict facts word), λ g. on_core_lem facts word _ g.decodes ∙ granted_by facts f true g.has-need)
+accepted_exactly facts word f = (by (verdict facts word), λ g. on_core_lem facts word _ g.decodes ∙ granted_by facts f true g.has_need)
   where
     by : Verdict facts word → decoded_on facts word ≡ Word f → Granted facts word f
     by (unknown _ is) h = absurd (omega (arith, ap number_of (sym is ∙ h)))
@@ -112,4 +112,4 @@ on_all word = go (decoded word) refl
 pub on_more : (fewer more : Facts) → Among fewer more → (word : ℕ) (f : Fields) → decoded_on fewer word ≡ Word f → decoded_on more word ≡ Word f
 on_more fewer more all word f h =
     let g = (accepted_exactly fewer word f).0 h in
-    (accepted_exactly more word f).1 (record { decodes = g.decodes; has_need = has_more fewer more all (need_of f.row) g.has-need })
+    (accepted_exactly more word f).1 (record { decodes = g.decodes; has_need = has_more fewer more all (need_of f.row) g.has_need })

@@ -1,4 +1,6 @@
 // What a word decodes to on a core: a row's need comes above its match and its sizes.
+#![tactic(auto)]
+
 ghost use Rattle.std.specs.Prelude.{◌≡◌, ◌<◌};
 ghost use Rattle.rows.specs.Table.{rows};
 ghost use Rattle.cores.specs.Need.{has, need_of};

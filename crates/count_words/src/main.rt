@@ -1,4 +1,6 @@
 // Counts the words of each answer over all 2^32: upper halves that no row has are passed over, the others are decoded word by word.
+#![tactic(auto)]
+
 ghost use Rattle.std.specs.Prelude.{◌≡◌, false, cond, ◌↔◌, ◌≢◌, ◌*◌, ◌^◌, ◌<◌, eqb};
 ghost use Rattle.machine.specs.Refusal.{UNKNOWN};
 ghost use Rattle.rows.specs.Digits.{word_digits};

@@ -1,4 +1,6 @@
 // Bytes and digits written from a place on; each function answers the place after what it wrote.
+#![tactic(auto)]
+
 ghost use Rattle.std.specs.Prelude.{◌≡◌, [], ◌∷◌, ◌+◌, ◌≤◌, ◌<◌, length};
 ghost use Rattle.digits.specs.Digits.{digit_of, digits_in, decimal_width, decimal};
 ghost use Rattle.digits.specs.Put.{Put};

@@ -1,4 +1,6 @@
 // What a lane of the families that write every lane is made of: elements of the sources, added or subtracted, and the old lane.
+#![tactic(auto)]
+
 ghost use Rattle.std.specs.Prelude.{◌≡◌, ◌+◌, ◌*◌, ◌/◌, [], ◌∷◌, if◌then◌else◌};
 ghost use Rattle.lanes.specs.Integer.{residue};
 ghost use Rattle.lanes.specs.Sum.{element, total};

@@ -1,5 +1,7 @@
 // The journal's bytes, by the version that they name: mark, version, k and count, then entries of a register's number and its old bytes; what is
 // read of them, and whether a journal is well formed.
+#![tactic(auto)]
+
 ghost use Rattle.std.specs.Prelude.{◌≡◌, ◌+◌, ◌^◌, ◌≤◌, ◌<◌, length, take};
 ghost use Rattle.parts.specs.Part.{same_bytes};
 ghost use Rattle.machine.specs.Size.{most_length};
@@ -214,7 +216,7 @@ fn has_heading(k: usize, journal: &[u8]) -> bool
     ensures { result ≡ same_bytes (take count_at journal.now) (headingOf (version_of journal.now) k) }
 {
     let heading = heading(version_of(journal), k);
-    check::same(&journal[..COUNT_AT], &heading)
+    parts::same_bytes(&journal[..COUNT_AT], &heading)
 }
 
 // Whether the first n entries have numbers that entries may have.

@@ -1,4 +1,6 @@
 // What each word does to its destination register: of a vector its low bytes are made and written, or every lane in place; a predicate is made.
+#![tactic(auto)]
+
 ghost use Rattle.std.specs.Prelude.{◌≡◌, ◌≤◌, ◌<◌};
 ghost use Rattle.machine.specs.Size.{most_length, sizes, predicate_bytes};
 ghost use Rattle.registers.specs.Register.{with_register, InFile};

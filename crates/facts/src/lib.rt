@@ -1,4 +1,6 @@
 // What a core has, as five facts, and the byte that stands for them.
+#![tactic(auto)]
+
 ghost use Rattle.std.specs.Prelude.{◌≡◌, ◌<◌};
 ghost use Rattle.facts.specs.Facts.{uniform, all_facts, no_facts, has_bit, facts_of, byte_of, Weighed};
 

@@ -1,4 +1,6 @@
 // Every family executed at three lengths on a core with all facts, with a vector destination among the sources; each line is what a walk shows of the step.
+#![tactic(auto)]
+
 ghost use Rattle.std.specs.Prelude.{◌≤◌};
 ghost use Rattle.machine.specs.Size.{most_length};
 

@@ -1,4 +1,6 @@
 // What the trials start from: bytes filled by a rule that a reader can repeat, and a program of every row.
+#![tactic(auto)]
+
 ghost use Rattle.std.specs.Prelude.{◌≤◌, ◌<◌, ◌≡◌, length};
 ghost use Rattle.programs.specs.Word.{words_of};
 ghost use Rattle.fillings.specs.Filled.{byte_values, vector_seed, predicate_seed, filled_from, filled_words};

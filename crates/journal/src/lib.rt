@@ -1,4 +1,6 @@
 // The step-back journal: a fresh one, its position, an entry that it holds, and whether a step or a step back is refused.
+#![tactic(auto)]
+
 ghost use Rattle.std.specs.Prelude.{◌≡◌};
 ghost use Rattle.machine.specs.Refusal.{refused};
 ghost use Rattle.registers.specs.State.{state};

@@ -64,7 +64,8 @@ residue_modulo D d (negsuc n) = go (le_dest quotient)
 -- the low bytes of an integer are those of its 64 digits
 pub bytes_residue : (w : ℕ) → w ≤ 8 → (z : ℤ) → bytes_of w (residue (bits_of w) z) ≡ bytes_of w (residue 64 z)
 bytes_residue w h z =
-    ap (bytes_of w) (residue_modulo (bits_of w) (64 - bits_of w) z ∙ ap (λ (k : ℕ). k % 2 ^ bits_of w) (ap (λ (k : ℕ). residue k z) (omega arith)))
+    let whole : bits_of w + (64 - bits_of w) ≡ 64 = omega arith in
+    ap (bytes_of w) (residue_modulo (bits_of w) (64 - bits_of w) z ∙ ap (λ (k : ℕ). k % 2 ^ bits_of w) (ap (λ (k : ℕ). residue k z) whole))
     ∙ ap (λ (k : ℕ). bytes_of w (residue 64 z % 2 ^ k)) (sym (add-zero (bits_of w)))
     ∙ bytes_modulo w 0 (residue 64 z)
 

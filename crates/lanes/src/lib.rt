@@ -1,4 +1,6 @@
 // Lanes of a register: a lane's number, its integer at 64 bits, the predicate bit that governs it, and writing a lane.
+#![tactic(auto)]
+
 ghost use Rattle.std.specs.Prelude.{◌≡◌, ◌+◌, ◌*◌, ◌<◌, ◌≤◌, length};
 ghost use Rattle.machine.specs.Size.{sizes};
 ghost use Rattle.lanes.specs.Lane.{lane as laneAt, active, with_lane, width_of, LaneIn, HasBit};

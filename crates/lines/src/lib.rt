@@ -1,4 +1,6 @@
 // One line of a walk, written at the front of what the caller lends.
+#![tactic(auto)]
+
 ghost use Rattle.std.specs.Prelude.{◌≡◌, [], ◌∷◌, ◌++◌, ◌+◌, ◌≤◌, length};
 ghost use Rattle.machine.specs.Refusal.{DONE};
 ghost use Rattle.registers.specs.State.{state, read};

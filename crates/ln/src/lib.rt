@@ -1,5 +1,7 @@
 // The library in a host's hands: thin calls under one prefix, for C and Rust; those that a pane asks with stand in `asked`. A slice is a pointer and then
 // a length; a core's facts are a byte.
+#![tactic(auto)]
+
 ghost use Rattle.std.specs.Prelude.{◌≡◌};
 ghost use Rattle.registers.specs.State.{state};
 ghost use Rattle.facts.specs.Facts.{facts_of};

@@ -1,4 +1,6 @@
 // The machine's sizes, each named once with the length it belongs to, and the checks of what a caller lends.
+#![tactic(auto)]
+
 ghost use Rattle.std.specs.Prelude.{◌≡◌, ◌≤◌, length};
 ghost use Rattle.machine.specs.Size.{least_length, most_length, is_legal, vector_bytes, predicate_bytes, vector_file, predicate_file};
 ghost use Rattle.machine.specs.Refusal.{refused, length_tests, files_tests, program_tests};

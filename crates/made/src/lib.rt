@@ -1,4 +1,6 @@
 // The predicate that a word makes, written over a register byte by byte.
+#![tactic(auto)]
+
 ghost use Rattle.std.specs.Prelude.{◌≡◌, ◌-◌, ◌<◌, length, set};
 ghost use Rattle.machine.specs.Size.{sizes};
 ghost use Rattle.made.specs.Made.{made_byte, made_bytes};

@@ -1,4 +1,6 @@
 // A word's text: its name, its operands and its pattern, written into what the caller lends.
+#![tactic(auto)]
+
 mod row;
 
 ghost use Rattle.std.specs.Prelude.{◌≡◌, ◌++◌, ◌≤◌, ◌<◌, length};

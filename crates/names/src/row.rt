@@ -24,7 +24,7 @@ fn is_named(text: &[u8], line: Row) -> bool
         return false;
     }
     let key = line.0;
-    check::same(&key, &text[..NAME])
+    parts::same_bytes(&key, &text[..NAME])
 }
 
 // The row that a text's first six bytes name, or the number of rows where they name none.

@@ -1,4 +1,6 @@
 // The operands of a word: which registers they are, what follows their numbers, and how they are written.
+#![tactic(auto)]
+
 ghost use Rattle.std.specs.Prelude.{◌≡◌, cond, ◌+◌, ◌-◌, ◌≤◌, ◌<◌, length};
 ghost use Rattle.machine.specs.Size.{sizes};
 ghost use Rattle.digits.specs.Put.{Put};

@@ -1,4 +1,6 @@
 // A register's bytes for drawing: the part of the file that holds it, not a copy.
+#![tactic(auto)]
+
 ghost use Rattle.std.specs.Prelude.{◌≡◌};
 ghost use Rattle.pane.specs.Drawn.{register_refused, register_part, register_place};
 

@@ -1,6 +1,8 @@
 // Parts of a slice: a number read at a place and written there, bytes copied over a part, and a part cleared.
+#![tactic(auto)]
+
 ghost use Rattle.std.specs.Prelude.{◌≡◌, ◌+◌, ◌≤◌, length, replicate};
-ghost use Rattle.parts.specs.Part.{with_part};
+ghost use Rattle.parts.specs.Part.{with_part, same_bytes};
 ghost use Rattle.parts.specs.Number.{number_at, with_number};
 
 // The number that stands in w bytes from a place on, byte by byte.
@@ -86,5 +88,12 @@ pub fn overwrite(bytes: &mut [u8], at: usize, source: &[u8])
     ensures { bytes.new ≡ with_part at (length source.now) source.now bytes.old }
 {
     let end = at + source.len();
-    bytes::copy(source, &mut bytes[at..end]);
+    bytes[at..end].copy_from_slice(source);
+}
+
+// Whether two slices have the same bytes.
+pub fn same_bytes(a: &[u8], b: &[u8]) -> bool
+    ensures { result ≡ same_bytes a.now b.now }
+{
+    a == b
 }

@@ -16,7 +16,7 @@ use Rattle.patterns.proofs.Patterns.{small_kind, large_kind, zero_kind, four_kin
 
 -- there is one largest of a kind
 pub largest_one : {P : ℕ → Type 0} (count m n : ℕ) → Largest P count m → Largest P count n → m ≡ n
-largest_one count m n a b = omega (arith, b.none-larger m a.is a.within, a.none-larger n b.is b.within)
+largest_one count m n a b = omega (arith, b.none_larger m a.is a.within, a.none_larger n b.is b.within)
 
 -- a power of two whose double is above the count is no smaller than any within
 power_most : (count n m : ℕ) → Last count n → IsPower m → m ≤ count → m ≤ n

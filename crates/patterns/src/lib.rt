@@ -1,4 +1,6 @@
 // The patterns of ptrue: how many lanes each names, and its text.
+#![tactic(auto)]
+
 ghost use Rattle.std.specs.Prelude.{◌≡◌, ◌++◌, ◌+◌, ◌≤◌, ◌<◌, length};
 ghost use Rattle.parts.specs.Part.{same_bytes};
 ghost use Rattle.digits.specs.Digits.{decimal};
@@ -95,7 +97,7 @@ fn is_text_of(text: &[u8], pattern: usize) -> bool
 {
     let mut name = [0u8; MOST_TEXT];
     let count = put_pattern(&mut name, 0, pattern);
-    check::same(&name[..count], text)
+    parts::same_bytes(&name[..count], text)
 }
 
 // The pattern whose text some bytes are, or the number of patterns where they are of none.

@@ -1,4 +1,6 @@
 // A plain walk on a core: words decoded and executed in turn, and the journal that they must leave, laid out here without the journal's code.
+#![tactic(auto)]
+
 ghost use Rattle.std.specs.Prelude.{◌≤◌};
 ghost use Rattle.machine.specs.Size.{most_length};
 ghost use Rattle.registers.specs.Register.{file_of, InFile};

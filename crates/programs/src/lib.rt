@@ -1,4 +1,6 @@
 // A program's words: the word at a place, or PROGRAM or END; and a reader that walks a program word by word.
+#![tactic(auto)]
+
 ghost use Rattle.std.specs.Prelude.{◌≡◌, ◌+◌, ◌*◌, ◌≤◌, length};
 ghost use Rattle.machine.specs.Size.{word_bytes};
 ghost use Rattle.programs.specs.Word.{word_at, next_word};

@@ -1,4 +1,6 @@
 // The families that write the low bytes of their destination: reductions, segment sums and sums across a vector.
+#![tactic(auto)]
+
 ghost use Rattle.std.specs.Prelude.{◌≡◌, ◌*◌, ◌/◌, ◌≤◌, length};
 ghost use Rattle.machine.specs.Size.{segment_bytes};
 ghost use Rattle.parts.specs.Number.{bytes_of};

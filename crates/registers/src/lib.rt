@@ -1,4 +1,6 @@
 // Registers in files: how many there are of a kind, how long one is and where it starts; its bytes lent, and written.
+#![tactic(auto)]
+
 ghost use Rattle.std.specs.Prelude.{◌≡◌, ◌≤◌, ◌<◌, length};
 ghost use Rattle.machine.specs.Size.{most_length};
 ghost use Rattle.registers.specs.Register.{register_from, register_count, entry_number, numbered, register_bytes, register_at, register_of};
@@ -92,7 +94,7 @@ pub fn write(destination: &mut [u8], source: &[u8])
     ensures { destination.new ≡ padded (length destination.old) source.now }
 {
     let n = source.len();
-    bytes::copy(source, destination);
+    parts::overwrite(destination, 0, source);
     parts::clear(&mut destination[n..]);
 }
 

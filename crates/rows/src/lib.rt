@@ -1,4 +1,6 @@
 // The table: a line for each word, its form, and the row that a word is of.
+#![tactic(auto)]
+
 ghost use Rattle.std.specs.Prelude.{◌≡◌};
 ghost use Rattle.rows.specs.Table.{table, row_at, matches, row_of, form_with, form_for, form_of, family_of};
 

@@ -1,4 +1,6 @@
 // What a text's bytes say at a place: the byte, what follows a space, a number, and by the bytes before the end the size and Q.
+#![tactic(auto)]
+
 ghost use Rattle.std.specs.Prelude.{◌≡◌, ◌≤◌, length, get_or, drop};
 ghost use Rattle.operands.specs.Operands.{letters};
 ghost use Rattle.scans.specs.Scanned.{PastSpace, worth, is_digit, number_in, from_end, place_of, size_in, full_digits, q_in};

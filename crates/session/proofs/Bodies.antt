@@ -131,7 +131,7 @@ parts_right bytes s parts =
       parts.files.legal,
       eq-eqb _ _ parts.files.vector_size,
       eq-eqb _ _ parts.files.predicate_size,
-      parts.program-size,
+      parts.program_size,
       eq-eqb (word_bytes * s.count % word_bytes) 0 (omega arith),
       le-leb _ _ few,
     )

@@ -1,4 +1,6 @@
 // A session, as the walk program takes it from its input: its bytes read into the places of its parts.
+#![tactic(auto)]
+
 ghost use Rattle.std.specs.Prelude.{◌≡◌, ◌≤◌, length};
 ghost use Rattle.session.specs.Body.{count_place, facts_place, files_place, facts_in, end_at, is_sized, placed as placed_at, no_session, body_of};
 ghost use Rattle.session.specs.Layout.{length_at, most_header, session_version, is_headed, most_session, session_of};
@@ -194,7 +196,7 @@ fn is_headed(bytes: &[u8]) -> bool
     requires { length_at ≤ length bytes.now }
     ensures { result ≡ is_headed bytes.now }
 {
-    if !check::same(&bytes[..MARK_BYTES], &MARK) {
+    if !parts::same_bytes(&bytes[..MARK_BYTES], &MARK) {
         return false;
     }
     let version = version_of(bytes);

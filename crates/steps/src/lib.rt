@@ -1,4 +1,6 @@
 // A step, which appends an entry and executes its word, and back, which takes the last entry off again.
+#![tactic(auto)]
+
 ghost use Rattle.std.specs.Prelude.{◌≡◌};
 ghost use Rattle.registers.specs.Register.{file_of};
 ghost use Rattle.registers.specs.State.{state};

@@ -1,4 +1,6 @@
 // Sums of a register's lanes: the active lanes in order, every lane in order, a range split at its middle; and the panel of segments.
+#![tactic(auto)]
+
 ghost use Rattle.std.specs.Prelude.{◌≡◌, ◌+◌, ◌≤◌};
 ghost use Rattle.lanes.specs.Integer.{residue};
 ghost use Rattle.lanes.specs.Sum.{each, element, active_element, total};

@@ -2,6 +2,8 @@
 // line of a word has the word, the number that naming answers, and where that is 0 the text and the word that the text assembles to;
 // after a row's words one has the numbers on every core. Each line of a text has the number that assembling answers and the text in
 // brackets.
+#![tactic(auto)]
+
 ghost use Rattle.std.specs.Prelude.{◌<◌};
 ghost use Rattle.machine.specs.Size.{sizes};
 

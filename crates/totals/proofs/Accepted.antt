@@ -74,7 +74,7 @@ module _ (k : ℕ) (z p : List ℕ) (source predicate size : ℕ) where
     source_in = in_files k z p Vector source h.lent h.source_is
 
     pub predicate_in : InFile k Predicate predicate p
-    predicate_in = in_files k z p Predicate predicate h.lent h.predicate-is
+    predicate_in = in_files k z p Predicate predicate h.lent h.predicate_is
 
     source_length : length (vector_of k source z) ≡ vector_bytes k
     source_length = length_register k Vector source z source_in

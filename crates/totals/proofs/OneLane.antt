@@ -52,7 +52,7 @@ module _ (k : ℕ) (z p : List ℕ) (source predicate size e : ℕ) where
         eq-eqb (length z) (vector_file k) h.lent.vector_size,
         eq-eqb (length p) (predicate_file k) h.lent.predicate_size,
         lt-ltb source vectors h.source_is,
-        lt-ltb predicate predicates h.predicate-is,
+        lt-ltb predicate predicates h.predicate_is,
         lt-ltb size sizes h.size_is,
         lt-ltb e (lanes_at k size) l,
       )

@@ -1,4 +1,6 @@
 // The calls for one lane, for a panel and for a subtotal: what a pane draws of a sum, for every input.
+#![tactic(auto)]
+
 ghost use Rattle.std.specs.Prelude.{◌≡◌, ◌+◌, ◌≤◌, length};
 ghost use Rattle.parts.specs.Part.{with_part, laid};
 ghost use Rattle.machine.specs.Size.{segment_bytes, most_length};

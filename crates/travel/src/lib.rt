@@ -1,4 +1,6 @@
 // Travel over the same buffers: steps forward and back, one after the other, all on one core.
+#![tactic(auto)]
+
 ghost use Rattle.std.specs.Prelude.{◌≡◌, ◌^◌};
 ghost use Rattle.registers.specs.State.{state};
 ghost use Rattle.journal.specs.Left.{core_of, buffers_of};

@@ -1,4 +1,6 @@
 // Long runs forward and back on a core, each compared with a plain walk from the same start: every byte of both files and of the journal.
+#![tactic(auto)]
+
 ghost use Rattle.std.specs.Prelude.{◌≤◌};
 ghost use Rattle.machine.specs.Size.{most_length};
 ghost use Rattle.entries.specs.Layout.{most_journal};
@@ -56,7 +58,7 @@ fn is_walked(
     ) {
         return false;
     }
-    check::same(plain_z, z) && check::same(plain_p, p) && check::same(plain_journal, journal)
+    parts::same_bytes(plain_z, z) && parts::same(plain_p, p) && parts::same(plain_journal, journal)
 }
 
 // Whether the bytes are those of a plain walk of so many words.

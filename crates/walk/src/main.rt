@@ -1,4 +1,6 @@
 // Reads a session from standard input and writes its walk to standard output: a line for each step until one is refused.
+#![tactic(auto)]
+
 ghost use Rattle.std.specs.Prelude.{◌≤◌, ◌<◌, length};
 ghost use Rattle.io.specs.Counts.{IsPrefixLen};
 ghost use Rattle.digits.specs.Put.{Put};

@@ -150,10 +150,10 @@ output_executed bytes s e done accepted fits =
       standing = standing;
       version = walk_version_lem s.k;
       room = omega (arith, walk_held s.k, walk_capacity_lem s.k, fits);
-      words = omega (arith, parts.program-size);
+      words = omega (arith, parts.program_size);
       accepted = accepted;
     } in
     output_session bytes s e done
     ∙ ap (λ (n : ℕ). lines_from n (session_core s) (program_part s bytes) 0 (session_buffers s bytes)) (sym all)
-    ∙ lines_enough s.count (most_words - s.count) (session_core s) (program_part s bytes) 0 (session_buffers s bytes) standing (omega (arith, parts.program-size))
+    ∙ lines_enough s.count (most_words - s.count) (session_core s) (program_part s bytes) 0 (session_buffers s bytes) standing (omega (arith, parts.program_size))
     ∙ lines_executed s.count (session_core s) (program_part s bytes) 0 (session_buffers s bytes) going

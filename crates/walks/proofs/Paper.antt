@@ -174,7 +174,7 @@ session_standing bytes s parts =
     let header = header_most walk_version in
     record {
       files = parts.files;
-      whole = rw (parts.program-size, eq-eqb (word_bytes * s.count % word_bytes) 0 (omega arith), le-leb _ _ few);
+      whole = rw (parts.program_size, eq-eqb (word_bytes * s.count % word_bytes) 0 (omega arith), le-leb _ _ few);
       formed = formed_none walk_version s.k most_journal refl (rw (le-leb (layout_of walk_version).header most_journal (omega (arith, header))) refl);
       place = position_closed walk_version s.k most_journal [] tt (omega arith);
     }
@@ -193,5 +193,5 @@ module _ (bytes : List ℕ) (s : Session) (e : s ≡ session_of bytes) (done : s
   pub output_enough : (more : ℕ) → lines_from (most_words + more) (session_core s) (program_part s bytes) 0 (session_buffers s bytes) ≡ output_of bytes
   output_enough more =
       lines_enough most_words more (session_core s) (program_part s bytes) 0 (session_buffers s bytes) (session_standing bytes s parts)
-      (omega (arith, parts.program-size, parts.few))
+      (omega (arith, parts.program_size, parts.few))
       ∙ sym (output_session bytes s e done)

@@ -1,4 +1,6 @@
 // The whole output of a walk: a session is read and stepped through, and its lines are written at the front of what the caller lends.
+#![tactic(auto)]
+
 ghost use Rattle.std.specs.Prelude.{◌≡◌, ◌+◌, ◌≤◌, length};
 ghost use Rattle.machine.specs.Size.{most_length, most_words, vector_file};
 ghost use Rattle.registers.specs.State.{state};
@@ -118,9 +120,11 @@ fn write_walk(out: &mut [u8], k: usize, facts: Facts, z: &[u8], p: &[u8], progra
     let mut journal = journal_room();
     journal::fresh(k, entries::CURRENT_VERSION, &mut journal);
     let mut vectors = file_room();
-    let vectors_end = bytes::copy(z, &mut vectors);
+    let vectors_end = z.len();
+    parts::overwrite(&mut vectors, 0, z);
     let mut predicates = file_room();
-    let predicates_end = bytes::copy(p, &mut predicates);
+    let predicates_end = p.len();
+    parts::overwrite(&mut predicates, 0, p);
     write_lines(
         out,
         k,

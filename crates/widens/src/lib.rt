@@ -1,4 +1,6 @@
 // The families that write every lane: pairwise accumulates, and widening sums and differences.
+#![tactic(auto)]
+
 ghost use Rattle.std.specs.Prelude.{◌≡◌, ◌+◌, ◌*◌, ◌≤◌};
 ghost use Rattle.machine.specs.Size.{vector_bytes};
 ghost use Rattle.parts.specs.Number.{with_number};

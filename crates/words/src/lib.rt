@@ -1,4 +1,6 @@
 // What a word decodes to: the fields of its row, where the row allows its size.
+#![tactic(auto)]
+
 ghost use Rattle.std.specs.Prelude.{◌≡◌, ◌<◌, ◌^◌};
 ghost use Rattle.rows.specs.Digits.{field, word_digits};
 ghost use Rattle.rows.specs.Table.{family_of};
