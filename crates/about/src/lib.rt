@@ -13,7 +13,7 @@ use machine::refusal;
 use rows::{Family, Form, LowFamily, ROWS, WideFamily};
 
 // What is told of a row; with a refusal nothing.
-#[derive(Drop)]
+#[derive(Clone, Copy)]
 pub struct About {
     pub number: u8,
     pub signed: bool,
@@ -31,7 +31,7 @@ pub struct About {
 }
 
 // What a word reads lanes of, or writes.
-#[derive(Drop)]
+#[derive(Clone, Copy)]
 pub enum Operand {
     First,
     Second,

@@ -25,7 +25,7 @@ const PTRUE: usize = 23;
 const PFALSE: usize = 24;
 
 // What a row needs of a core.
-#[derive(Drop)]
+#[derive(Clone, Copy)]
 pub enum Need {
     Nothing,
     SveOrSme,

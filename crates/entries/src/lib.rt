@@ -14,7 +14,7 @@ ghost use Rattle.entries.specs.Needs.{SameLayout, Headed, EntryInside, Fits};
 use machine::{Length, refusal};
 
 // What a version of the journal has: the bytes before its entries, and the greatest number of an entry.
-#[derive(Drop)]
+#[derive(Clone, Copy)]
 pub struct Layout {
     pub header: usize,
     pub greatest: usize,

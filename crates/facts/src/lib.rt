@@ -7,7 +7,7 @@ ghost use Rattle.facts.specs.Facts.{uniform, all_facts, no_facts, has_bit, facts
 pub mod bit;
 
 // What a core has; none of the five implies another.
-#[derive(Drop)]
+#[derive(Clone, Copy)]
 pub struct Facts {
     pub sve: bool,
     pub sve2: bool,

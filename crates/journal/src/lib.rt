@@ -104,7 +104,7 @@ pub fn position(k: usize, journal: &[u8]) -> Answer
 
 // What is told of a held entry: its register's number, where that register's old bytes start in the journal, and how many they are; with a
 // refusal nothing.
-#[derive(Drop)]
+#[derive(Clone, Copy)]
 pub struct Held {
     pub number: u8,
     pub target: usize,

@@ -23,7 +23,7 @@ mod held;
 
 // An answer with a value, which is 0 with a refusal.
 #[repr(C)]
-#[derive(Drop)]
+#[derive(Clone, Copy)]
 pub struct LnAnswer {
     pub number: u64,
     pub value: u64,
@@ -31,7 +31,7 @@ pub struct LnAnswer {
 
 // A word's fields; one that its row does not have is 0, and all are 0 with a refusal.
 #[repr(C)]
-#[derive(Drop)]
+#[derive(Clone, Copy)]
 pub struct LnFields {
     pub number: u64,
     pub row: u64,
@@ -46,7 +46,7 @@ pub struct LnFields {
 
 // Where a register stands: in which file, its first byte and how many; 0 with a refusal.
 #[repr(C)]
-#[derive(Drop)]
+#[derive(Clone, Copy)]
 pub struct LnPlace {
     pub number: u64,
     pub predicate: u64,
@@ -56,7 +56,7 @@ pub struct LnPlace {
 
 // A program's word and the place after it; with a refusal 0 and the place unmoved.
 #[repr(C)]
-#[derive(Drop)]
+#[derive(Clone, Copy)]
 pub struct LnWord {
     pub number: u64,
     pub word: u64,
@@ -65,7 +65,7 @@ pub struct LnWord {
 
 // A session's length and count, where its files and its program lie in the bytes, and the byte of its facts; 0 with a refusal.
 #[repr(C)]
-#[derive(Drop)]
+#[derive(Clone, Copy)]
 pub struct LnSession {
     pub number: u64,
     pub k: u64,
@@ -79,7 +79,7 @@ pub struct LnSession {
 // A lane: its integer at 64 bits, whether it is active, its first byte in the vector file and its bit in the predicate register; 0 with a
 // refusal.
 #[repr(C)]
-#[derive(Drop)]
+#[derive(Clone, Copy)]
 pub struct LnLane {
     pub number: u64,
     pub value: u64,
@@ -91,7 +91,7 @@ pub struct LnLane {
 // A journal's entry: its number, which is a vector register's or 32 above a predicate register's, and where that register's old bytes stand in
 // the journal and how many; 0 with a refusal.
 #[repr(C)]
-#[derive(Drop)]
+#[derive(Clone, Copy)]
 pub struct LnEntry {
     pub number: u64,
     pub target: u64,
@@ -102,7 +102,7 @@ pub struct LnEntry {
 // What a row is: flags, the byte of facts of which one is enough, and for sizes 0 to 3 the bytes of the lanes that its words read and write,
 // or that a predicate which they write governs; 0 with a refusal.
 #[repr(C)]
-#[derive(Drop)]
+#[derive(Clone, Copy)]
 pub struct LnRowAbout {
     pub number: u64,
     pub is_signed: u64,

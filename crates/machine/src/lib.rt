@@ -8,14 +8,14 @@ ghost use Rattle.machine.specs.Refusal.{refused, length_tests, files_tests, prog
 pub mod refusal;
 
 // What a call with a value answers: the number, and the value, which is 0 with a refusal.
-#[derive(Drop)]
+#[derive(Clone, Copy)]
 pub struct Answer {
     pub number: u8,
     pub value: u64,
 }
 
 // A vector length: k units of sixteen bytes.
-#[derive(Drop)]
+#[derive(Clone, Copy)]
 pub struct Length {
     pub k: usize,
 }

@@ -12,7 +12,7 @@ use rows::{Family, LowFamily, WideFamily};
 use words::Fields;
 
 // What follows a register's number: nothing, the lanes' size, their count and size, or that inactive lanes merge.
-#[derive(Drop)]
+#[derive(Clone, Copy)]
 pub enum Suffix {
     Plain,
     Lane(usize),
@@ -21,7 +21,7 @@ pub enum Suffix {
 }
 
 // A register as an operand.
-#[derive(Drop)]
+#[derive(Clone, Copy)]
 pub struct Operand {
     pub letter: u8,
     pub number: usize,

@@ -11,7 +11,7 @@ mod held;
 pub mod reader;
 
 // What stands at a place of a program: the number, the word, which is 0 with a refusal, and the place that comes next.
-#[derive(Drop)]
+#[derive(Clone, Copy)]
 pub struct Next {
     pub number: u8,
     pub word: u32,

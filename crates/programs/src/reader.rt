@@ -3,14 +3,14 @@ ghost use Rattle.std.specs.Prelude.{◌≡◌};
 ghost use Rattle.programs.specs.Read.{reader_at, read_next};
 
 // A lent program and the place in it from which the next word is read.
-#[derive(Drop)]
+#[derive(Clone, Copy)]
 pub struct Reader<'a> {
     pub program: &'a [u8],
     pub at: usize,
 }
 
 // What a reader answers: the number, the word, which is 0 with a refusal, and the reader moved on, or with a refusal unmoved.
-#[derive(Drop)]
+#[derive(Clone, Copy)]
 pub struct Read<'a> {
     pub number: u8,
     pub word: u32,

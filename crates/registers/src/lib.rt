@@ -9,7 +9,7 @@ ghost use Rattle.registers.specs.Register.{with_register, padded, InFile};
 use machine::Length;
 
 // The two kinds of register.
-#[derive(Drop)]
+#[derive(Clone, Copy)]
 pub enum Kind {
     Vector,
     Predicate,

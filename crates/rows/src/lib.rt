@@ -5,7 +5,7 @@ ghost use Rattle.std.specs.Prelude.{◌≡◌};
 ghost use Rattle.rows.specs.Table.{table, row_at, matches, row_of, form_with, form_for, form_of, family_of};
 
 // What a family writes: the low bytes of V with zeros above, every lane of Z, or a predicate.
-#[derive(Drop)]
+#[derive(Clone, Copy)]
 pub enum Family {
     Low(LowFamily),
     Wide(WideFamily),
@@ -13,7 +13,7 @@ pub enum Family {
 }
 
 // The families that write the low bytes.
-#[derive(Drop)]
+#[derive(Clone, Copy)]
 pub enum LowFamily {
     Reduction,
     Segment,
@@ -21,14 +21,14 @@ pub enum LowFamily {
 }
 
 // The families that write every lane.
-#[derive(Drop)]
+#[derive(Clone, Copy)]
 pub enum WideFamily {
     Pairwise,
     Widening,
 }
 
 // The families that make a predicate: of the lanes that a pattern names, or of none.
-#[derive(Drop)]
+#[derive(Clone, Copy)]
 pub enum MadeFamily {
     Patterned,
     Cleared,
@@ -36,7 +36,7 @@ pub enum MadeFamily {
 
 // A row's parameters: whether its elements are signed, whether it takes the top half elements, whether its first source's have the full
 // width, and whether its second source's are subtracted.
-#[derive(Drop)]
+#[derive(Clone, Copy)]
 pub struct Parameters {
     pub signed: bool,
     pub top: bool,
@@ -45,14 +45,14 @@ pub struct Parameters {
 }
 
 // How a row works: its family, and its parameters.
-#[derive(Drop)]
+#[derive(Clone, Copy)]
 pub struct Form {
     pub family: Family,
     pub parameters: Parameters,
 }
 
 // What a row's words do, as the table has it: a family and, of the widening family, sums and differences, long and wide.
-#[derive(Drop)]
+#[derive(Clone, Copy)]
 pub enum Operation {
     Reduce,
     Segments,
@@ -68,7 +68,7 @@ pub enum Operation {
 
 // A row: name, with a space where it has five letters; mask and value, a word being of it where word AND mask = value; operation; whether
 // its elements are signed; and whether they are the odd ones, which are the top halves.
-#[derive(Drop)]
+#[derive(Clone, Copy)]
 pub struct Row(
     pub [u8; NAME],
     pub u32,

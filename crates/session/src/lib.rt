@@ -11,7 +11,7 @@ use machine::{Length, refusal};
 
 // A session's length and count, where in its bytes the vector file, the predicate file and the program start, and the program
 // ends, and the core's facts; with a refusal, zeros and none.
-#[derive(Drop)]
+#[derive(Clone, Copy)]
 pub struct Session {
     pub number: u8,
     pub k: usize,

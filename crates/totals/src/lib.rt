@@ -13,7 +13,7 @@ use registers::Kind;
 
 // What is told of a lane: its integer at 64 bits, whether it is active, where it starts in the vector file, and its bit of the predicate
 // register; with a refusal nothing.
-#[derive(Drop)]
+#[derive(Clone, Copy)]
 pub struct Lane {
     pub number: u8,
     pub value: u64,

@@ -12,7 +12,7 @@ use machine::refusal;
 mod held;
 
 // How many steps of each kind were accepted.
-#[derive(Drop)]
+#[derive(Clone, Copy)]
 pub struct Travelled {
     pub forward: usize,
     pub back: usize,

@@ -17,7 +17,7 @@ const DIRECTION_SEED: u8 = 9;
 const CHOICES: u64 = 3;
 
 // What a run is told: the length, its journal's version and the facts of its core.
-#[derive(Drop)]
+#[derive(Clone, Copy)]
 struct Run {
     k: usize,
     version: usize,

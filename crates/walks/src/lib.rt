@@ -17,7 +17,7 @@ use session::Session;
 mod held;
 
 // What a step answered, and the place after its line.
-#[derive(Drop)]
+#[derive(Clone, Copy)]
 pub struct Turn {
     pub number: u8,
     pub at: usize,

@@ -14,7 +14,7 @@ use rows::{Family, Form, LowFamily, MadeFamily, ROWS, WideFamily};
 pub mod place;
 
 // A word's row and its fields; a field that the row does not have is 0.
-#[derive(Drop)]
+#[derive(Clone, Copy)]
 pub struct Fields {
     pub row: usize,
     pub size: usize,
@@ -27,7 +27,7 @@ pub struct Fields {
 }
 
 // What a word is: no row's, of a row that does not allow its size, or accepted with its fields.
-#[derive(Drop)]
+#[derive(Clone, Copy)]
 pub enum Decoded {
     Unknown,
     Undefined,

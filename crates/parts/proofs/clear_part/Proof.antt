@@ -18,7 +18,7 @@ returns c =
     let s = cleared.before.before.before in
     let a = s.args in
     let n : a.at + a.n - a.at ≡ a.n = omega arith in
-    let came = cleared.clear.new.0 in
+    let came = cleared.clear.new.bytes in
     let same : came ≡ replicate a.n 0 =
     cleared.clear.ensures
     ∙ rw (n, length_part a.at a.n a.bytes.now s.requires) in

@@ -18,11 +18,8 @@ returns c =
     let lent = copied.before in
     let s = lent.before.before.before in
     let a = s.args in
-    let n : a.at + length a.source.now - a.at ≡ length a.source.now = omega arith in
-    let came = copied.copy.new.1.0 in
-    let same : came ≡ a.source.now =
-    copied.copy.ensures.1
-    ∙ rw n (copied_over a.at a.source.now a.bytes.now s.requires) in
+    let came = copied.copy_from_slice.new.self in
+    let same : came ≡ a.source.now = copied.copy_from_slice.ensures.1 in
     put_part a.at (a.at + length a.source.now) a.bytes.now came (omega arith)
     ∙ ap (λ (s : List ℕ). with_part a.at (length a.source.now) s a.bytes.now) same
 
