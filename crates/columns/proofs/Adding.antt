@@ -55,8 +55,9 @@ bytes_sum w s z h =
 
     low : residue (bits_of w) z ≡ residue 64 z % 2 ^ bits_of w
     low =
+        let whole : bits_of w + (64 - bits_of w) ≡ 64 = omega arith in
         residue_modulo (bits_of w) (64 - bits_of w) z
-        ∙ ap (λ (k : ℕ). k % 2 ^ bits_of w) (ap (λ (k : ℕ). residue k z) (omega arith))
+        ∙ ap (λ (k : ℕ). k % 2 ^ bits_of w) (ap (λ (k : ℕ). residue k z) whole)
 
 -- and so is a sum that comes round past the top of 64 digits
 pub wrapped_lane : (w e n : ℕ) (row : List ℕ) → w ≤ 8 → with_lane w e (n % 2 ^ 64) row ≡ with_lane w e n row

@@ -37,21 +37,21 @@ counted_last n rest count c h = go (width c.more rest)
     go (one p e) = omega (arith, c.all)
     go (further p e) = absurd (omega arith)
 
-abbrev invariant-loop : tie.invariant-loop
+abbrev invariant-loop : tie.invariant-loop-rest
 invariant-loop n rest₀ count₀ rest count = Counted n rest count
 
-abbrev decreases-loop : tie.decreases-loop
+abbrev decreases-loop : tie.decreases-loop-rest
 decreases-loop n rest₀ count₀ rest count = rest
 
-loop-holds : tie.Need-loop-init invariant-loop decreases-loop
+loop-holds : tie.Need-loop-rest-init invariant-loop decreases-loop
 unfolding decimal_width
 loop-holds c = record { more = most_digits - 1; room = refl; below = omega arith; all = omega arith }
 
-loop-again : tie.Need-loop-preserved invariant-loop decreases-loop
-loop-again c = counted_next _ _ _ c.before.loop.invariant (omega arith)
+loop-again : tie.Need-loop-rest-preserved invariant-loop decreases-loop
+loop-again c = counted_next _ _ _ c.before.loop-rest.invariant (omega arith)
 
 returns : tie.Need-returns invariant-loop decreases-loop
-returns c = counted_last _ _ _ c.before.loop.invariant (omega arith)
+returns c = counted_last _ _ _ c.before.loop-rest.invariant (omega arith)
 
 pub decimal_width_spec : {M : Type 1} → statement M
 decimal_width_spec =

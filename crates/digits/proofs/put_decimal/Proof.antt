@@ -8,15 +8,15 @@ use Rattle.digits.proofs.put_decimal.Statement.{statement}
 use Rattle.digits.proofs.put_decimal.Tie as tie
 
 -- where the function starts
-abbrev start : tie.After-decimal-width → tie.Start
+abbrev start : tie.After-decimal_width → tie.Start
 start c = c.before.before.before
 
-put-digits-requires : tie.Need-put-digits-requires
+put-digits-requires : tie.Need-put_digits-requires
 put-digits-requires c κs =
     (omega arith, omega arith, omega (arith, digits_length 10 (decimal_width (start c).args.n) (start c).args.n))
 
 returns : tie.Need-returns
-returns c = rw (← c.before.before.before.decimal-width.ensures) c.before.before.put-digits.ensures
+returns c = rw (← c.before.before.before.decimal_width.ensures) c.before.before.put_digits.ensures
 
 pub put_decimal_spec : {M : Type 1} → statement M
 put_decimal_spec = tie.close (tie.spec (λ c κs. search rules) put-digits-requires (λ c. search rules) returns)

@@ -12,37 +12,37 @@ use Rattle.digits.proofs.Decimals.{digits_length, digits_next}
 use Rattle.digits.proofs.put_digits.Statement.{statement}
 use Rattle.digits.proofs.put_digits.Tie as tie
 
-abbrev invariant-loop : tie.invariant-loop
+abbrev invariant-loop : tie.invariant-loop-i
 invariant-loop out₀ at base count n rest₀ i₀ out rest i =
     (i ≤ count) × (length out ≡ length out₀) × (sets out at (digits_in base i rest) ≡ sets out₀ at (digits_in base count n))
 
-abbrev decreases-loop : tie.decreases-loop
+abbrev decreases-loop : tie.decreases-loop-i
 decreases-loop out₀ at base count n rest₀ i₀ out rest i = i
 
-loop-holds : tie.Need-loop-init invariant-loop decreases-loop
+loop-holds : tie.Need-loop-i-init invariant-loop decreases-loop
 loop-holds c = (omega arith, refl, refl)
 
 digit-requires : tie.Need-digit-requires invariant-loop decreases-loop
-digit-requires c κs = omega (arith, mod-lt c.before.loop.rest c.before.before.before.requires.0)
+digit-requires c κs = omega (arith, mod-lt c.before.loop-i.rest c.before.before.before.requires.0)
 
-loop-again : tie.Need-loop-preserved invariant-loop decreases-loop
+loop-again : tie.Need-loop-i-preserved invariant-loop decreases-loop
 loop-again c =
     let turn = c.before.before in
     let a = turn.before.before.args in
-    let l = turn.loop in (
+    let l = turn.loop-i in (
       omega arith,
       simp length-set l.invariant.1,
-      digits_next l.out a.at a.base l.i l.rest c.digit.result c.before.loop-test.true c.digit.ensures ∙ l.invariant.2,
+      digits_next l.out a.at a.base l.i l.rest c.digit.result c.before.loop-i-test.true c.digit.ensures ∙ l.invariant.2,
     )
 
-same_length : tie.Need-same-length invariant-loop decreases-loop
-same_length c = c.before.loop.invariant.1
+same_length : tie.Need-shape_of-out invariant-loop decreases-loop
+same_length c = c.before.loop-i.invariant.1
 
 returns : tie.Need-returns invariant-loop decreases-loop
 unfolding digits_in
 returns c =
     let a = c.before.before.before.args in
-    let l = c.before.loop in
+    let l = c.before.loop-i in
     let none : l.i ≡ 0 = omega arith in
     record { bytes = rw none at l.invariant.2; after = rw digits_length }
 

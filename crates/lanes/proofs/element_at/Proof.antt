@@ -13,7 +13,7 @@ extend-requires c κs =
     record {
       least = search rules;
       most = search rules;
-      digits = rw c.lane.ensures (lane_lt a.w a.e a.operand.now (λ i. omega (arith, c.before.shared-slice-known.given i)));
+      digits = rw c.lane.ensures (lane_lt a.w a.e a.operand.now (λ i. omega (arith, c.before.shared_slice_known-1.given i)));
     }
 
 returns : tie.Need-returns

@@ -20,14 +20,14 @@ few size count h = omega (arith, (le-div_iff_mul-le (pow_pos size)).0 h, suc-mul
 power : (n : ℕ) → n < 8 → (1 * 2 ^ n) % 256 ≡ 2 ^ n
 power n h = rw (one-mul (2 ^ n)) (mod-eq_of_lt (pow-lt {i = n} {j = 8} h))
 
-returns : tie.Need-returns
+returns : tie.Need-returns-then-size-count
 returns c =
     let a = c.before.before.args in
-    c.every-lane.ensures
-    ∙ sym (byte_whole a.size a.count (rw (← lanes_fill a.size c.before.before.requires) (mul-le-mul_right (width_of a.size) c.before.if1.true)))
+    c.every_lane.ensures
+    ∙ sym (byte_whole a.size a.count (rw (← lanes_fill a.size c.before.before.requires) (mul-le-mul_right (width_of a.size) c.before.if-size-count.true)))
 
 -- past the test, the count's bits are those of its lanes, and fewer than eight
-module _ (c : tie.After-every-lane2) where
+module _ (c : tie.After-every_lane-2) where
   abbrev size : ℕ
   size = c.before.before.before.args.size
 
@@ -35,17 +35,17 @@ module _ (c : tie.After-every-lane2) where
   count = c.before.before.before.args.count
 
   abbrev bits : ℕ
-  bits = count * c.before.width_of_lem.result
+  bits = count * c.before.width_of-w.result
 
   width : bits ≡ count * width_of size
-  width = ap (λ (w : ℕ). count * w) c.before.width_of_lem.ensures
+  width = ap (λ (w : ℕ). count * w) c.before.width_of-w.ensures
 
   below : bits < 8
-  below = rw width (few size count c.before.before.if1.false)
+  below = rw width (few size count c.before.before.if-size-count.false)
 
-returns-2 : tie.Need-returns-2
+returns-2 : tie.Need-returns
 returns-2 c =
-    ap₂ (λ (n m : ℕ). n % m) c.every-lane2.ensures (power (bits c) (below c) ∙ ap (λ (n : ℕ). 2 ^ n) (width c))
+    ap₂ (λ (n m : ℕ). n % m) c.every_lane-2.ensures (power (bits c) (below c) ∙ ap (λ (n : ℕ). 2 ^ n) (width c))
     ∙ sym (byte_cut (size c) (count c) (omega (arith, width c, below c)))
 
 pub lanes_below_spec : {M : Type 1} → statement M

@@ -18,17 +18,17 @@ use Rattle.made.proofs.Each.{each_more}
 use Rattle.made.proofs.put_made.Statement.{statement}
 use Rattle.made.proofs.put_made.Tie as tie
 
-abbrev invariant-loop : tie.invariant-loop
+abbrev invariant-loop : tie.invariant-loop-j
 invariant-loop register₀ size count left₀ j₀ register left j =
     (j ≤ length register₀)
     × (length register ≡ length register₀)
     × (left ≡ count - j * (8 / width_of size))
     × (take j register ≡ each (made_byte size count) 0 j)
 
-abbrev decreases-loop : tie.decreases-loop
+abbrev decreases-loop : tie.decreases-loop-j
 decreases-loop register₀ size count left₀ j₀ register left j = length register₀ - j
 
-loop-holds : tie.Need-loop-init invariant-loop decreases-loop
+loop-holds : tie.Need-loop-j-init invariant-loop decreases-loop
 loop-holds c = (omega arith, refl, rw (zero-mul (8 / width_of c.before.args.size)) (sym (sub-zero c.before.args.count)), refl)
 
 -- with byte j put behind the first j, the first j + 1 are the predicate's
@@ -42,27 +42,27 @@ put_next size count left j byte old new sized inside lanes is put first =
     ∙ ap (λ (i : ℕ). each (made_byte size count) 0 j ++ (made_byte size count i ∷ [])) (sym (zero-add j))
     ∙ sym (each_more (made_byte size count) 0 j)
 
-loop-again : tie.Need-loop-preserved invariant-loop decreases-loop
+loop-again : tie.Need-loop-j-preserved invariant-loop decreases-loop
 loop-again c =
     let put = c.before.before.before in
-    let byte = put.before.lanes-below in
-    let l = put.before.before.before.before.loop in
+    let byte = put.before.lanes_below in
+    let l = put.before.before.before.before.loop-j in
     let s = put.before.before.before.before.before.before in (
       omega arith,
       ap length put.put_byte.ensures ∙ simp length-set l.invariant.1,
-      rw (add-one l.j) (c.less.ensures ∙ omega (arith, l.invariant.2, suc-mul l.j (8 / width_of s.args.size))),
+      rw (add-one l.j) (c.less-left.ensures ∙ omega (arith, l.invariant.2, suc-mul l.j (8 / width_of s.args.size))),
       rw (add-one l.j)
-          (put_next s.args.size s.args.count l.left l.j byte.result l.register put.put_byte.new.0 s.requires (omega arith) l.invariant.2
+          (put_next s.args.size s.args.count l.left l.j byte.result l.register put.put_byte.new.register s.requires (omega arith) l.invariant.2
           byte.ensures put.put_byte.ensures l.invariant.3),
     )
 
-same_length : tie.Need-same-length invariant-loop decreases-loop
-same_length c = c.before.loop.invariant.1
+same_length : tie.Need-shape_of-register invariant-loop decreases-loop
+same_length c = c.before.loop-j.invariant.1
 
 returns : tie.Need-returns invariant-loop decreases-loop
 unfolding made_bytes
 returns c =
-    let l = c.before.loop in
+    let l = c.before.loop-j in
     let a = c.before.before.before.args in
     let end : l.j ≡ length l.register = omega (arith, l.invariant.1) in
     sym (take-length l.register)

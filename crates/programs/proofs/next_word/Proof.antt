@@ -14,20 +14,20 @@ use Rattle.programs.proofs.next_word.Statement.{statement}
 use Rattle.programs.proofs.next_word.Tie as tie
 
 -- the program's refusal is the call's, and past it the place decides
-checks : (c : tie.After-check-program) → let a = c.before.before.args in
-    Checked c.check-program.result (next_refused a.program.now a.at) (cond (leb (words_of (length a.program.now)) a.at) END DONE)
-checks c = checked (program_tests (length c.before.before.args.program.now)) tt refl c.check-program.ensures
+checks : (c : tie.After-check_program-number) → let a = c.before.before.args in
+    Checked c.check_program-number.result (next_refused a.program.now a.at) (cond (leb (words_of (length a.program.now)) a.at) END DONE)
+checks c = checked (program_tests (length c.before.before.args.program.now)) tt refl c.check_program-number.ensures
 
-returns : tie.Need-returns
+returns : tie.Need-returns-then-number-ne-DONE
 returns c =
     let a = c.before.before.before.args in
-    none_found _ _ (word_at a.program.now a.at) a.at ((checks c.before).refuses c.if1.true) c.if1.true
+    none_found _ _ (word_at a.program.now a.at) a.at ((checks c.before).refuses c.if-number-ne-DONE.true) c.if-number-ne-DONE.true
 
-returns-2 : tie.Need-returns-2
-returns-2 c = rw ((checks c.before.before).passes c.before.if1.false, le-leb _ _ c.if2.true)
+returns-2 : tie.Need-returns-then-program-at
+returns-2 c = rw ((checks c.before.before).passes c.before.if-number-ne-DONE.false, le-leb _ _ c.if-program-at.true)
 
-returns-3 : tie.Need-returns-3
-returns-3 c = let p = c.before.before in rw ((checks p.before).passes p.if1.false, lt-leb _ _ c.before.if2.false, c.word_at.ensures)
+returns-3 : tie.Need-returns
+returns-3 c = let p = c.before.before in rw ((checks p.before).passes p.if-number-ne-DONE.false, lt-leb _ _ c.before.if-program-at.false, c.word_at.ensures)
 
 pub next_word_spec : {M : Type 1} → statement M
 next_word_spec =

@@ -6,11 +6,11 @@ use Rattle.programs.proofs.Words.{word_lt}
 use Rattle.programs.proofs.word_at.Statement.{statement}
 use Rattle.programs.proofs.word_at.Tie as tie
 
-cast-result : tie.Need-overflow-cast-result
+cast-result : tie.Need-overflow_cast-result
 cast-result c =
     record {
       fits =
-          rw c.number_at.ensures (word_lt c.before.before.args.program.now c.before.before.args.i (λ j. omega (arith, c.before.shared-slice-known.given j)));
+          rw c.number_at.ensures (word_lt c.before.before.args.program.now c.before.before.args.i (λ j. omega (arith, c.before.shared_slice_known-1.given j)));
     }
 
 -- the word is the number of the four bytes at its place
