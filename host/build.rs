@@ -1,6 +1,6 @@
 //! Finds the engine's library for the linker, or says why there is nothing to link.
 //!
-//! `LN_LIBRARY` names the folder of `libln.a`; without it that is the repository's `target/staticlib`.
+//! `LN_LIBRARY` names the folder of `libln.a`; without it that is the repository's `crates/ln/out`.
 //! A relative folder is looked for from where cargo was called, then from this package.
 
 use std::env;
@@ -47,7 +47,7 @@ fn find_library() -> Result<PathBuf, String> {
         PathBuf::from(env::var_os("CARGO_MANIFEST_DIR").expect("cargo names the package"));
     let named = env::var_os("LN_LIBRARY").filter(|folder| !folder.is_empty()).map(PathBuf::from);
     let folders = match &named {
-        None => vec![package.join("../target/staticlib")],
+        None => vec![package.join("../crates/ln/out")],
         Some(folder) if folder.is_absolute() => vec![folder.clone()],
         Some(folder) => {
             // Cargo calls this program in the package; the shell's own folder is still in PWD.
@@ -68,10 +68,10 @@ fn missing(folders: &[PathBuf], named: Option<&Path>) -> String {
     let folders: Vec<String> = folders.iter().map(|folder| folder.display().to_string()).collect();
     let advice = match named {
         None => {
-            "Make it by `rt staticlib ln` in the repository, or set LN_LIBRARY to the folder that \
+            "Make it by `rt lib` in the repository's crates/ln, or set LN_LIBRARY to the folder that \
              has it."
         }
-        Some(_) => "LN_LIBRARY names the folder that has it; `rt staticlib ln` makes it.",
+        Some(_) => "LN_LIBRARY names the folder that has it; `rt lib` in crates/ln makes it.",
     };
     format!("There is no libln.a, the engine's library, in {}.\n{}", folders.join(" or "), advice)
 }

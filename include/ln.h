@@ -22,12 +22,12 @@
  *
  * Link with libln.a, which is code for x86-64 Linux: from the repository's folder
  *
- *     gcc -Iinclude program.c target/staticlib/libln.a && ./a.out
+ *     gcc -Iinclude program.c crates/ln/out/libln.a && ./a.out
  *
  * On another processor a compiler for x86-64 builds the program and an emulator runs it. On aarch64 Linux
  * with Debian's packages gcc-x86-64-linux-gnu and qemu-user that is
  *
- *     x86_64-linux-gnu-gcc -static -Iinclude program.c target/staticlib/libln.a && qemu-x86_64 ./a.out
+ *     x86_64-linux-gnu-gcc -static -Iinclude program.c crates/ln/out/libln.a && qemu-x86_64 ./a.out
  *
  * Calls. No value has to be checked before a call: every call ends for every k, number, facts, length
  * and content of the lent bytes, with LN_DONE or with a refusal. A refusal gives zero in place of every

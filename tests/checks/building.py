@@ -36,10 +36,10 @@ def one_line(ran, reason):
 
 def first_builds(checkout):
     """What is said of the first build, and of one that fails."""
-    checkout.run("fails").expect(1, "not built yet", "rt: walk NOT PROVED (exit 1, 2 s)", "could not be built", out=b"")
+    checkout.run("fails").expect(1, "not built yet", "fn walk::main: not proved", "could not be built", out=b"")
     first = checkout.run("builds").expect(3, out=paper).err.split("\n")
-    expect(first[0].startswith("run: the program walk is not built yet") and "about three minutes" in first[0], "the first line is", first[0])
-    expect(first[1:3] == ["rt: machine proved (9 s)", "rt: walk proved (10 s)"] and first[3:] == NOTE.split("\n"), "the crates are not shown:", first)
+    expect(first[0].startswith("run: the program walk is not built yet") and "some minutes" in first[0], "the first line is", first[0])
+    expect(first[1:3] == ["run: machine is proved", "run: walk is proved"] and first[3:] == NOTE.split("\n"), "the crates are not shown:", first)
     expect(checkout.called() == 2, "rt was not called once for each build")
     expect(os.listdir(checkout.temporary) == [], "temporary files stay:", os.listdir(checkout.temporary))
 
@@ -52,12 +52,12 @@ def what_changed(checkout):
         return ran
 
     silent(called(0))
-    for name, text in (("crates/walks/src/lib.rt", "changed\n"), ("crates/walk/specs/new.antt", ""), ("crates.txt", "walk: walks\nwalks: bytes\n"),
+    for name, text in (("crates/walks/src/lib.rt", "changed\n"), ("crates/walk/specs/new.antt", ""), ("crates.txt", "walk: walks\nwalks: csv\n"),
                        ("crates/walk/.hidden", "")):
         checkout.write(name, text)
         silent(called(1))
         silent(called(0))
-    for name in ("crates/other/src/lib.rt", "crates/walk/must-fail/a.edit", "target/log/a"):
+    for name in ("crates/other/src/lib.rt", "crates/walk/must-fail/a.edit", "crates/walk/out/incremental/a", "target/a"):
         checkout.write(name, "changed\n")
         silent(called(0))
     os.remove(checkout.at("target/run.stamp"))  # as where rt built without a run
@@ -65,11 +65,11 @@ def what_changed(checkout):
     silent(called(0))
     checkout.write("crates/walks/src/lib.rt", "changed again\n")
     slow = called(1, "slow").err.split("\n")
-    expect("have changed since it was built" in slow[0] and slow[1] == "rt: walk proved (5 s)", "a second build says", slow)
-    os.remove(checkout.at("target/bin/walk"))
-    called(1).expect(3, "not built yet", "rt: walk proved (10 s)")
-    checkout.write("target/bin/walk", "#!/bin/sh\necho 0 0 another\n", 0o755)
-    called(1).expect(3, "run: the program target/bin/walk is not the one that was built: it is built again\n", "rt: walk proved (10 s)")
+    expect("have changed since it was built" in slow[0] and slow[1] == "run: walk is proved", "a second build says", slow)
+    os.remove(checkout.at("crates/walk/out/walk"))
+    called(1).expect(3, "not built yet", "run: walk is proved")
+    checkout.write("crates/walk/out/walk", "#!/bin/sh\necho 0 0 another\n", 0o755)
+    called(1).expect(3, "run: the program crates/walk/out/walk is not the one that was built: it is built again\n", "run: walk is proved")
     silent(called(0))
     shutil.copytree(checkout.path, checkout.path + ".moved")
     silent(Ran(["bash", checkout.path + ".moved/run"], env=dict(checkout.env, WHAT="fails")))
@@ -104,7 +104,7 @@ def one_builds(checkout, first):
     builders = [line for line in said if line != waiting]
     expect(len(builders) == 1 and builders[0].startswith(first), "eight at once say", said)
     for line, run, (out, err) in zip(said, started, rest):
-        end = NOTE if line == waiting else "rt: machine proved (9 s)\nrt: walk proved (10 s)\n" + NOTE
+        end = NOTE if line == waiting else "run: machine is proved\nrun: walk is proved\n" + NOTE
         expect((run.returncode, out, err.decode()) == (3, paper, end), "one of eight that build:", err)
     expect(checkout.called() == 1, "rt is called more than once for eight runs")
 
@@ -130,8 +130,8 @@ def missing(checkout):
     expect(checkout.run("", **nothing).expect(3, out=paper).err == untold + NOTE, "a walk that no run has built is not run")
     checkout.built().write("crates/walk/src/lib.rt", "changed once more\n")
     one_line(checkout.run("", **nothing), "walk's crates have changed since it was built, and " + lacking)
-    checkout.built().write("target/bin/walk", "#!/bin/sh\n", 0o755)
-    one_line(checkout.run("", **nothing), "the program target/bin/walk is not the one that was built, and " + lacking)
+    checkout.built().write("crates/walk/out/walk", "#!/bin/sh\n", 0o755)
+    one_line(checkout.run("", **nothing), "the program crates/walk/out/walk is not the one that was built, and " + lacking)
     one_line(checkout.unbuilt().run("", **nothing), "the program walk is not built, and " + lacking)
     os.symlink(os.path.join(checkout.tools, "rt"), os.path.join(checkout.bare, "rt"))
     one_line(checkout.run("", **nothing), "the program walk is not built, and a build needs flock and setsid (on Debian: apt-get install util-linux)")
@@ -156,12 +156,16 @@ def unlockable(checkout):
 
 
 def other_processor(checkout):
-    """On a processor that is not walk's the emulator comes with rt, so there rt is needed."""
+    """On a processor that is not walk's its C library comes with rt, and an emulator runs it, so there both are needed."""
     os.remove(os.path.join(checkout.bare, "rt"))
     os.remove(os.path.join(checkout.bare, "uname"))
     checkout.write(os.path.join(checkout.bare, "uname"), "#!/bin/sh\necho another\n", 0o755)
-    one_line(checkout.run("", PATH=checkout.bare), "walk is a program for x86-64, which the toolchain's emulator runs on this processor, "
+    one_line(checkout.run("", PATH=checkout.bare), "walk is a program for x86-64, which needs the toolchain's C library on this processor, "
              "and the toolchain's command rt is not on the PATH")
+    os.symlink(os.path.join(checkout.tools, "rt"), os.path.join(checkout.bare, "rt"))
+    one_line(checkout.run("", PATH=checkout.bare), "walk is a program for x86-64, which needs the emulator qemu-x86_64 on this processor "
+             "(on Debian: apt-get install qemu-user)")
+    os.remove(os.path.join(checkout.bare, "rt"))
     os.remove(os.path.join(checkout.bare, "uname"))
     os.symlink(shutil.which("uname"), os.path.join(checkout.bare, "uname"))
 

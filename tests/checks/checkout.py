@@ -6,28 +6,32 @@ import subprocess
 from .common import WALK, Ran, place
 
 RT = """#!/bin/sh
-# A stand-in for rt: it builds by copying, and says what rt would say. Each call of it adds a line to $CALLS.
+# A stand-in for rt, which is called in walk's folder: it builds by copying, and says what rt would say. Each call of it adds a line to $CALLS.
 [ "$1" = doc ] && PATH=$REAL_PATH exec "$REAL_RT" doc
 echo "$*" >>"$CALLS"
+sum() { sha256sum <out/walk; }
+proved() { echo "rt: chose --jobs 1 for $1"; echo "fn $1::main: proved"; echo 'logic=proved functions=1'; }
 build() {
-    mkdir -p target/bin target/stamp
-    cp "$REAL_WALK" target/bin/walk
-    : >target/stamp/walk
-    echo 'fn machine::check_length: proved'
-    echo 'rt: machine proved (9 s)'
-    echo 'rt: walk proved (10 s)'
+    rm -f out/walk.stamp
+    proved machine
+    proved walk
+    mkdir -p out
+    cp "$REAL_WALK" out/walk
+    sum >out/walk.stamp
 }
-keep() { echo 'rt: machine proved (unchanged since it was last proved)'; echo 'rt: walk proved (unchanged since it was last proved)'; }
+keep() { echo 'rt: nothing has changed since the last proved build, by out/walk.stamp, so nothing is checked now'; }
+[ "$1" = run ] && [ "${PWD##*/}" = walk ] || exit 2
 case $WHAT in
-builds) if [ -f target/stamp/walk ]; then keep; else build; fi ;;
+builds) if [ -f out/walk ] && [ -f out/walk.stamp ] && [ "$(sum)" = "$(cat out/walk.stamp)" ]; then keep; else build; fi ;;
 again) build ;;
-slow) sleep 4; keep >/dev/null; echo 'rt: walk proved (5 s)' ;;
-fails) echo 'rt: walk NOT PROVED (exit 1, 2 s)'; exit 1 ;;
+slow) sleep 4; proved walk ;;
+fails) echo 'fn walk::main: not proved'; exit 1 ;;
 waits) until [ -e "$RELEASED" ]; do sleep 0.1; done; build ;;
-endless) mkdir -p target/bin; sleep 1000 & (sleep 1000; sleep 1000) & head -c 9000 "$REAL_WALK" >target/bin/walk; chmod +x target/bin/walk
+endless) mkdir -p out; rm -f out/walk.stamp; sleep 1000 & (sleep 1000; sleep 1000) & head -c 9000 "$REAL_WALK" >out/walk; chmod +x out/walk
     echo >>"$CALLS.begun"; sleep 1000 ;;
 esac
-echo 'rt: ok, 10 crates proved'
+echo 'rt: running out/walk; to give it other input, run that file yourself' >&2
+echo 14
 """
 # what run needs where walk is built, apart from python3, rt and what only a build needs
 NEEDED = "bash cat dirname head mktemp od readlink rm sed sha256sum tail tr uname wc"
@@ -46,7 +50,7 @@ class Checkout:
         shutil.copy(place("run"), self.path)
         for folder in ("bin", "examples"):
             shutil.copytree(place(folder), os.path.join(self.path, folder))
-        self.write("crates.txt", "# a comment\nwalk: walks libc\nwalks: bytes\nother: walks\n")
+        self.write("crates.txt", "# a comment\nwalk: walks json\nwalks: csv\nother: walks\nlinked staticlib: walks\n")
         for crate in ("walk", "walks", "other"):
             self.write("crates/%s/src/lib.rt" % crate, "as it was\n")
         self.write(os.path.join(self.tools, "rt"), RT, 0o755)
@@ -66,7 +70,8 @@ class Checkout:
 
     def unbuilt(self):
         """The checkout as it is before the first build."""
-        shutil.rmtree(self.at("target"), ignore_errors=True)
+        for folder in ("target", "crates/walk/out"):
+            shutil.rmtree(self.at(folder), ignore_errors=True)
         return self
 
     def built(self):

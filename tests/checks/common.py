@@ -20,13 +20,13 @@ def expect(holds, *what):
 
 
 def walk_command():
-    """The proved program, on a processor other than x86-64 under the toolchain's emulator."""
-    program = [os.path.join(ROOT, "target/bin/walk")]
+    """The proved program, on a processor other than x86-64 under an emulator and with the toolchain's C library."""
+    program = [os.path.join(ROOT, "crates/walk/out/walk")]
     if platform.machine() == "x86_64":
         return program
     doc = subprocess.run(["rt", "doc"], stdout=subprocess.PIPE, check=True).stdout.decode().strip()
-    kit = os.path.join(os.path.dirname(os.path.dirname(doc)), "on", platform.machine(), "toolchain")
-    return [kit + "/bin/qemu-x86_64", kit + "/lib/ld-linux-x86-64.so.2", "--library-path", kit + "/lib"] + program
+    libraries = os.path.join(os.path.dirname(doc), "toolchain/lib")
+    return ["qemu-x86_64", libraries + "/ld-linux-x86-64.so.2", "--library-path", libraries] + program
 
 
 WALK = walk_command()

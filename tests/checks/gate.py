@@ -7,15 +7,23 @@ import tempfile
 
 from .common import Ran, expect, place
 
-NEEDED = "bash sh awk cat chmod cp df dirname id mkdir mktemp readlink rm sed tail tee true"
+NEEDED = "bash sh cat dirname id mkdir mktemp readlink rm sed tail tee"
 SYSTEM = '#!/bin/sh\ncase $1 in -s) echo Linux ;; -m) echo x86_64 ;; esac\n'
 COMPILER = "#!/bin/sh\n"
+# rt in the checkout's folder, and in the library's; what it says of the edits is in $EDITS
 RT = """#!/bin/sh
-case $1 in
-ci) echo 'rt: parts proved (1 s)'; echo "7 passed, ${FAILED:-0} failed"; exit "${FAILED:-0}" ;;
-staticlib) mkdir -p target/staticlib; : >target/staticlib/libln.a ;;
+case "$*, in ${PWD##*/}" in
+"ci, in copy")
+    echo 'rt: parts proved'
+    [ -n "${SILENT-}" ] || echo "rt: ok; handles allowed: none; must-fail edits: 5 refused${EDITS-}; every proof and must-fail edit was done in this run"
+    echo "7 passed, ${FAILED:-0} failed"
+    exit "${FAILED:-0}" ;;
+"lib, in ln") mkdir -p out; : >out/libln.a ;;
+*) exit 2 ;;
 esac
 """
+# run, which ends with the refusal in the session that ships
+RUN = "#!/bin/sh\necho 'walk is built' >&2\nexit ${BUILT:-3}\n"
 TEST = "import os, sys\nprint('%s is tested')\nsys.exit(int(os.environ.get('%s', '0')))\n"
 TESTS = ("quotations", "seams", "terminal")
 VERDICT = b"7 passed, 0 failed\n"
@@ -30,6 +38,8 @@ def check():
             os.makedirs(os.path.dirname(os.path.join(copy, script)))
             shutil.copy(place(script), os.path.join(copy, script))
         os.mkdir(os.path.join(copy, "tests"))
+        os.makedirs(os.path.join(copy, "crates/ln"))
+        write(os.path.join(copy, "run"), RUN)
         for name in TESTS:
             write(os.path.join(copy, "tests", name), TEST % (name, name.upper()))
         bare = os.path.join(room, "bare")
@@ -39,6 +49,14 @@ def check():
         write(os.path.join(bare, "uname"), SYSTEM)
         write(os.path.join(bare, "rt"), RT)
         gates(copy, bare)
+
+
+def edits(gate, passes):
+    """A bad edit is a failure, though the prover passes it; one that is refused by a limit alone is none."""
+    passes(EDITS=", 1 of them only by a limit")
+    for told in (dict(EDITS=", 2 bad"), dict(EDITS=", 1 of them only by a limit, 12 bad"), dict(SILENT="1")):
+        said = gate("--allow-skips", **told).expect(1, "gate: FAILED: ", "must-fail edits")
+        expect(VERDICT not in said.out and b"is tested" not in said.out, "with a bad edit the gate printed", said.out)
 
 
 def write(path, text):
@@ -78,8 +96,11 @@ def gates(copy, bare):
     for test in TESTS:
         out = gate("--allow-skips", **{test.upper(): "1"}).expect(1).out
         expect(b"terminal is tested" in out and VERDICT not in out, "with a test that fails the gate printed", out)
+    out = gate("--allow-skips", BUILT="1").expect(1).out
+    expect(b"gate: FAILED: run ends with 1 " in out and b"terminal is tested" in out and VERDICT not in out, "without walk the gate printed", out)
     failed = gate("--allow-skips", FAILED="1").expect(1).out
     expect(failed.endswith(b"7 passed, 1 failed\n"), "with a crate that fails the gate printed", failed)
+    edits(gate, passes)
     for name in ("cargo", "gcc"):
         write(os.path.join(bare, name), COMPILER)
     fails("the header as C++17, g++ is missing and cannot be installed")

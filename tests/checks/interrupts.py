@@ -13,7 +13,7 @@ from .checkout import Checkout
 from .common import expect, place, read
 
 SIGNALS = (signal.SIGINT, signal.SIGTERM, signal.SIGHUP)
-BEGUN = "run: the program walk is not built yet: its crates are proved first, which takes about three minutes on two free cores\n"
+BEGUN = "run: the program walk is not built yet: its crates are proved first, which takes some minutes\n"
 STOPPED = "run: stopped before walk was built; each crate that was proved stays proved\n"
 MARK = "CHECKED_BY=%d" % os.getpid()
 
@@ -129,18 +129,18 @@ def interrupted(checkout):
     await_rt(checkout)
     os.killpg(run.pid, signal.SIGINT)
     run.communicate(timeout=120)
-    expect(run.returncode == -signal.SIGINT and os.path.getsize(checkout.at("target/bin/walk")) == 9000, "a build was not interrupted")
+    expect(run.returncode == -signal.SIGINT and os.path.getsize(checkout.at("crates/walk/out/walk")) == 9000, "a build was not interrupted")
 
 
 def half_written(checkout):
     """What an interrupted build left is not taken for built, even where the crates are then as they were when walk was built."""
     paper = read("examples/paper.expected")
     interrupted(checkout.unbuilt())
-    checkout.run("builds").expect(3, BEGUN, "rt: walk proved (10 s)", out=paper)
+    checkout.run("builds").expect(3, BEGUN, "run: walk is proved", out=paper)
     checkout.write("crates/walk/src/lib.rt", "other\n")
     interrupted(checkout)
     checkout.write("crates/walk/src/lib.rt", "as it was\n")
-    checkout.run("builds").expect(3, "is not the one that was built: it is built again", "rt: walk proved (10 s)", out=paper)
+    checkout.run("builds").expect(3, "is not the one that was built: it is built again", "run: walk is proved", out=paper)
 
 
 def killed(checkout):

@@ -96,7 +96,7 @@ def names(room):
     run("--lanes=octal").expect(2, "signed, unsigned or hex", out=b"")
     Ran(["bash", "-c", 'bash "$1" - <&-', "bash", place("run")]).expect(1, "standard input could not be read")
     helped = run("--help").expect(0)
-    expect(b"Exit status: 0" in helped.out and b"three minutes" in helped.out and b"'facts sve sve2'" in helped.out and not helped.err, "--help")
+    expect(b"Exit status: 0" in helped.out and b"some minutes" in helped.out and b"'facts sve sve2'" in helped.out and not helped.err, "--help")
 
 
 def outputs():
@@ -166,7 +166,7 @@ if [ $((facts & NEED)) = "$EQUAL" ]; then echo 0 8 04002020; else echo 0 0 stran
 
 def asked(checkout, walked):
     """What a word needs is what walk says, whatever that is: run has no table of its own."""
-    checkout.write("target/bin/walk", WALKS, 0o755)
+    checkout.write("crates/walk/out/walk", WALKS, 0o755)
     os.remove(checkout.at("target/run.stamp"))
     for need, said in (("2", "strange needs SVE2, and the session's facts do not have it"),
                        ("17", "strange needs SVE or SME2p1, and the session's facts have neither"),

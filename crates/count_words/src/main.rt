@@ -8,6 +8,7 @@ ghost use Rattle.count_words.specs.Tally.{block_words, tally, NoWord};
 
 use machine::refusal;
 use rows::ROWS;
+use std::io;
 
 // The words of a block, which have one upper half; there are as many blocks.
 const BLOCK: u64 = 65536;
@@ -79,10 +80,9 @@ fn count_all(counted: u8) -> u64
     count
 }
 
-fn main() {
-    io::write_all(1, b"accepted ");
-    io::print_decimal(1, count_all(refusal::DONE));
-    io::write_all(1, b"\nundefined ");
-    io::print_decimal(1, count_all(refusal::UNDEFINED));
-    io::write_all(1, b"\n");
+fn main(rt: HostRuntime) -> io::Result<()> {
+    let accepted = count_all(refusal::DONE);
+    println!(rt; "accepted {accepted}")?;
+    let undefined = count_all(refusal::UNDEFINED);
+    println!(rt; "undefined {undefined}")
 }

@@ -8,10 +8,10 @@ ghost use Rattle.std.specs.Prelude.{◌<◌};
 ghost use Rattle.machine.specs.Size.{sizes};
 
 use facts::Facts;
-use libc::STDOUT_FILENO;
 use machine::{Length, refusal};
 use patterns::PATTERNS;
 use rows::ROWS;
+use std::io;
 
 // Every digit but those of the size.
 const NO_SIZE: u32 = 0xFF3FFFFF;
@@ -41,29 +41,28 @@ fn word_of(row: usize, size: u32, most: bool) -> u32
 }
 
 // A word's line.
-fn show_word(word: u32) {
+fn show_word(rt: &impl Print, word: u32) -> io::Result<()> {
     let mut out = [0u8; names::LEAST_OUT];
     let named = names::text(word, facts::all(), &mut out);
-    io::print_hex(STDOUT_FILENO, word as u64, 8);
-    io::write_all(STDOUT_FILENO, b" ");
-    io::print_decimal(STDOUT_FILENO, named.number as u64);
-    if named.number == refusal::DONE {
+    let number = named.number;
+    print!(rt; "{word:08x} {number}")?;
+    if number == refusal::DONE {
         let count = named.value as usize;
-        let read = assembles::assemble(&out[..count], facts::all());
-        io::write_all(STDOUT_FILENO, b" ");
-        io::write_all(STDOUT_FILENO, &out[..count]);
-        io::write_all(STDOUT_FILENO, b" ");
-        io::print_hex(STDOUT_FILENO, read.value, 8);
+        let read = assembles::assemble(&out[..count], facts::all()).value;
+        rt.write_all(b" ")?;
+        rt.write_all(&out[..count])?;
+        print!(rt; " {read:08x}")?;
     }
-    io::write_all(STDOUT_FILENO, b"\n");
+    rt.write_all(b"\n")
 }
 
 // A row's lines: each size, with the other fields at their least and at their most.
-fn show_row(row: usize) {
+fn show_row(rt: &impl Print, row: usize) -> io::Result<()> {
     for size in 0..Length::SIZES as u32 {
-        show_word(word_of(row, size, false));
-        show_word(word_of(row, size, true));
+        show_word(rt, word_of(row, size, false))?;
+        show_word(rt, word_of(row, size, true))?;
     }
+    Ok(())
 }
 
 // The number that naming a word answers on a core whose facts a byte tells.
@@ -84,162 +83,159 @@ fn size_on_each(row: usize) -> u32
 }
 
 // A row's line: a word of it, and the number that naming it answers on each core, whose facts are the bits of 0 to 31.
-fn show_needs(row: usize) {
+fn show_needs(rt: &impl Print, row: usize) -> io::Result<()> {
     let word = word_of(row, size_on_each(row), false);
-    io::print_hex(STDOUT_FILENO, word as u64, 8);
-    io::write_all(STDOUT_FILENO, b" ");
+    print!(rt; "{word:08x} ")?;
     for byte in 0..facts::ALL + 1 {
-        io::print_decimal(STDOUT_FILENO, number_on(byte, word) as u64);
+        rt.print(number_on(byte, word))?;
     }
-    io::write_all(STDOUT_FILENO, b"\n");
+    rt.write_all(b"\n")
 }
 
 // The lines of all rows, on a core with all facts and then on each core.
-fn show_rows() {
+fn show_rows(rt: &impl Print) -> io::Result<()> {
     for row in 0..ROWS {
-        show_row(row);
-        show_needs(row);
+        show_row(rt, row)?;
+        show_needs(rt, row)?;
     }
+    Ok(())
 }
 
 // The lines of the paper's words.
-fn show_words() {
+fn show_words(rt: &impl Print) -> io::Result<()> {
     for i in 0..COUNT {
-        show_word(WORDS[i]);
+        show_word(rt, WORDS[i])?;
     }
+    Ok(())
 }
 
 // The lines of every pattern.
-fn show_patterns() {
+fn show_patterns(rt: &impl Print) -> io::Result<()> {
     for pattern in 0..PATTERNS as u32 {
-        show_word(PTRUE | (pattern << words::place::PATTERN));
+        show_word(rt, PTRUE | (pattern << words::place::PATTERN))?;
     }
+    Ok(())
 }
 
 // A text's line, on a core with all facts.
-fn show_text(text: &[u8]) {
-    show_text_on(facts::all(), text);
+fn show_text(rt: &impl Print, text: &[u8]) -> io::Result<()> {
+    show_text_on(rt, facts::all(), text)
 }
 
 // A text's line on a core.
-fn show_text_on(facts: Facts, text: &[u8]) {
-    let read = assembles::assemble(text, facts);
-    io::print_decimal(STDOUT_FILENO, read.number as u64);
-    io::write_all(STDOUT_FILENO, b" [");
-    io::write_all(STDOUT_FILENO, text);
-    io::write_all(STDOUT_FILENO, b"]\n");
+fn show_text_on(rt: &impl Print, facts: Facts, text: &[u8]) -> io::Result<()> {
+    let number = assembles::assemble(text, facts).number;
+    print!(rt; "{number} [")?;
+    rt.write_all(text)?;
+    rt.write_all(b"]\n")
 }
 
 // Texts that differ from an accepted one in a byte or two.
-fn show_near_misses() {
-    show_text(b"saddv d0, p0, z1.d");
-    show_text(b"saddv d00, p0, z1.b");
-    show_text(b"saddv d0, p0, z01.b");
-    show_text(b"Saddv d0, p0, z1.b");
-    show_text(b"saddv d0, p0, z1.B");
-    show_text(b"saddv  d0, p0, z1.b");
-    show_text(b"saddv d0,  p0, z1.b");
-    show_text(b"saddv d0 p0, z1.b");
-    show_text(b"saddv d0,p0, z1.b");
-    show_text(b"saddv d0, p8, z1.b");
-    show_text(b"saddv d32, p0, z1.b");
-    show_text(b"saddv d0, p0, z32.b");
-    show_text(b"saddv d0, p0, z100.b");
-    show_text(b"saddv s0, p0, z1.b");
-    show_text(b"saddv d0, p0/m, z1.b");
-    show_text(b"saddv d0, p0, z1");
-    show_text(b"saddv d0, p0, z1.b ");
-    show_text(b" saddv d0, p0, z1.b");
-    show_text(b"saddv d0, p0, z1.b\n");
-    show_text(b"saddv");
-    show_text(b"");
+fn show_near_misses(rt: &impl Print) -> io::Result<()> {
+    show_text(rt, b"saddv d0, p0, z1.d")?;
+    show_text(rt, b"saddv d00, p0, z1.b")?;
+    show_text(rt, b"saddv d0, p0, z01.b")?;
+    show_text(rt, b"Saddv d0, p0, z1.b")?;
+    show_text(rt, b"saddv d0, p0, z1.B")?;
+    show_text(rt, b"saddv  d0, p0, z1.b")?;
+    show_text(rt, b"saddv d0,  p0, z1.b")?;
+    show_text(rt, b"saddv d0 p0, z1.b")?;
+    show_text(rt, b"saddv d0,p0, z1.b")?;
+    show_text(rt, b"saddv d0, p8, z1.b")?;
+    show_text(rt, b"saddv d32, p0, z1.b")?;
+    show_text(rt, b"saddv d0, p0, z32.b")?;
+    show_text(rt, b"saddv d0, p0, z100.b")?;
+    show_text(rt, b"saddv s0, p0, z1.b")?;
+    show_text(rt, b"saddv d0, p0/m, z1.b")?;
+    show_text(rt, b"saddv d0, p0, z1")?;
+    show_text(rt, b"saddv d0, p0, z1.b ")?;
+    show_text(rt, b" saddv d0, p0, z1.b")?;
+    show_text(rt, b"saddv d0, p0, z1.b\n")?;
+    show_text(rt, b"saddv")?;
+    show_text(rt, b"")
 }
 
 // Texts whose widths or arrangements do not fit.
-fn show_misfits() {
-    show_text(b"addqv v0.8b, p0, z1.b");
-    show_text(b"addqv v0.16b, p0, z1.h");
-    show_text(b"uaddlv s0, v1.8b");
-    show_text(b"uaddlv h0, v1.4b");
-    show_text(b"uaddlv d0, v0.2s");
-    show_text(b"uaddlv q0, v0.2d");
-    show_text(b"sadalp z0.h, p0/m, z1.h");
-    show_text(b"sadalp z0.b, p0/m, z1.b");
-    show_text(b"sadalp z0.h, p0, z1.b");
-    show_text(b"sadalp z0.h, p0/z, z1.b");
-    show_text(b"saddlb z0.h, z1.b, z1.h");
-    show_text(b"saddlb z0.h, z1.h, z1.h");
-    show_text(b"saddlb z0.h, z1.b");
-    show_text(b"saddwb z0.h, z1.b, z1.b");
-    show_text(b"saddwb z0.h, z1.h, z1.h");
-    show_text(b"saddwb z0.b, z1.b, z1.b");
-    show_text(b"ssublb z0.h, z1.h, z1.b");
-    show_text(b"ssubwb z0.h, z1.h");
-    show_text(b"ssubv d0, p0, z1.b");
+fn show_misfits(rt: &impl Print) -> io::Result<()> {
+    show_text(rt, b"addqv v0.8b, p0, z1.b")?;
+    show_text(rt, b"addqv v0.16b, p0, z1.h")?;
+    show_text(rt, b"uaddlv s0, v1.8b")?;
+    show_text(rt, b"uaddlv h0, v1.4b")?;
+    show_text(rt, b"uaddlv d0, v0.2s")?;
+    show_text(rt, b"uaddlv q0, v0.2d")?;
+    show_text(rt, b"sadalp z0.h, p0/m, z1.h")?;
+    show_text(rt, b"sadalp z0.b, p0/m, z1.b")?;
+    show_text(rt, b"sadalp z0.h, p0, z1.b")?;
+    show_text(rt, b"sadalp z0.h, p0/z, z1.b")?;
+    show_text(rt, b"saddlb z0.h, z1.b, z1.h")?;
+    show_text(rt, b"saddlb z0.h, z1.h, z1.h")?;
+    show_text(rt, b"saddlb z0.h, z1.b")?;
+    show_text(rt, b"saddwb z0.h, z1.b, z1.b")?;
+    show_text(rt, b"saddwb z0.h, z1.h, z1.h")?;
+    show_text(rt, b"saddwb z0.b, z1.b, z1.b")?;
+    show_text(rt, b"ssublb z0.h, z1.h, z1.b")?;
+    show_text(rt, b"ssubwb z0.h, z1.h")?;
+    show_text(rt, b"ssubv d0, p0, z1.b")
 }
 
 // Texts that are nearly one of a made predicate.
-fn show_made_misses() {
-    show_text(b"ptrue p0.b");
-    show_text(b"ptrue p0.b,");
-    show_text(b"ptrue p0.b, ");
-    show_text(b"ptrue p0.b, #31");
-    show_text(b"ptrue p0.b, #5");
-    show_text(b"ptrue p0.b, #32");
-    show_text(b"ptrue p0.b, #0x1f");
-    show_text(b"ptrue p0.b, 14");
-    show_text(b"ptrue p0.b, vl9");
-    show_text(b"ptrue p0.b, vl016");
-    show_text(b"ptrue p0.b, ALL");
-    show_text(b"ptrue p0.b,all");
-    show_text(b"ptrue p0.b,  all");
-    show_text(b"ptrue p0.b, all ");
-    show_text(b"ptrue p0.b all");
-    show_text(b"ptrue p0.b, all, all");
-    show_text(b"ptrue p0, all");
-    show_text(b"ptrue p0.q, all");
-    show_text(b"ptrue p00.b, all");
-    show_text(b"ptrue p16.b, all");
-    show_text(b"ptrue z0.b, all");
-    show_text(b"ptrues p0.b, all");
-    show_text(b"pfalse p3.h");
-    show_text(b"pfalse p3");
-    show_text(b"pfalse p16.b");
-    show_text(b"pfalse p3.b, all");
+fn show_made_misses(rt: &impl Print) -> io::Result<()> {
+    show_text(rt, b"ptrue p0.b")?;
+    show_text(rt, b"ptrue p0.b,")?;
+    show_text(rt, b"ptrue p0.b, ")?;
+    show_text(rt, b"ptrue p0.b, #31")?;
+    show_text(rt, b"ptrue p0.b, #5")?;
+    show_text(rt, b"ptrue p0.b, #32")?;
+    show_text(rt, b"ptrue p0.b, #0x1f")?;
+    show_text(rt, b"ptrue p0.b, 14")?;
+    show_text(rt, b"ptrue p0.b, vl9")?;
+    show_text(rt, b"ptrue p0.b, vl016")?;
+    show_text(rt, b"ptrue p0.b, ALL")?;
+    show_text(rt, b"ptrue p0.b,all")?;
+    show_text(rt, b"ptrue p0.b,  all")?;
+    show_text(rt, b"ptrue p0.b, all ")?;
+    show_text(rt, b"ptrue p0.b all")?;
+    show_text(rt, b"ptrue p0.b, all, all")?;
+    show_text(rt, b"ptrue p0, all")?;
+    show_text(rt, b"ptrue p0.q, all")?;
+    show_text(rt, b"ptrue p00.b, all")?;
+    show_text(rt, b"ptrue p16.b, all")?;
+    show_text(rt, b"ptrue z0.b, all")?;
+    show_text(rt, b"ptrues p0.b, all")?;
+    show_text(rt, b"pfalse p3.h")?;
+    show_text(rt, b"pfalse p3")?;
+    show_text(rt, b"pfalse p16.b")?;
+    show_text(rt, b"pfalse p3.b, all")
 }
 
 // A text of 10,000 bytes: its line has the number alone.
-fn show_long() {
+fn show_long(rt: &impl Print) -> io::Result<()> {
     let text = [b'z'; 10000];
-    io::print_decimal(
-        STDOUT_FILENO,
-        assembles::assemble(&text, facts::all()).number as u64,
-    );
-    io::write_all(STDOUT_FILENO, b"\n");
+    rt.println(assembles::assemble(&text, facts::all()).number)
 }
 
 // Texts that some cores have and others do not.
-fn show_texts_on(facts: Facts) {
-    show_text_on(facts, b"saddv d0, p0, z1.b");
-    show_text_on(facts, b"addqv v0.16b, p0, z1.b");
-    show_text_on(facts, b"uaddlv h2, v1.8b");
-    show_text_on(facts, b"sadalp z0.h, p0/m, z1.b");
-    show_text_on(facts, b"usubwt z0.h, z1.h, z2.b");
-    show_text_on(facts, b"ptrue p3.h, vl16");
-    show_text_on(facts, b"pfalse p3.b");
+fn show_texts_on(rt: &impl Print, facts: Facts) -> io::Result<()> {
+    show_text_on(rt, facts, b"saddv d0, p0, z1.b")?;
+    show_text_on(rt, facts, b"addqv v0.16b, p0, z1.b")?;
+    show_text_on(rt, facts, b"uaddlv h2, v1.8b")?;
+    show_text_on(rt, facts, b"sadalp z0.h, p0/m, z1.b")?;
+    show_text_on(rt, facts, b"usubwt z0.h, z1.h, z2.b")?;
+    show_text_on(rt, facts, b"ptrue p3.h, vl16")?;
+    show_text_on(rt, facts, b"pfalse p3.b")
 }
 
-fn main() {
-    show_rows();
-    show_words();
-    show_patterns();
-    show_near_misses();
-    show_misfits();
-    show_made_misses();
-    show_long();
-    show_texts_on(facts::none());
-    show_texts_on(facts::facts_of(facts::bit::SVE));
-    show_texts_on(facts::facts_of(facts::bit::SVE2));
-    show_texts_on(facts::facts_of(facts::bit::SME));
-    show_texts_on(facts::facts_of(facts::bit::SME2P1));
+fn main(rt: HostRuntime) -> io::Result<()> {
+    show_rows(&rt)?;
+    show_words(&rt)?;
+    show_patterns(&rt)?;
+    show_near_misses(&rt)?;
+    show_misfits(&rt)?;
+    show_made_misses(&rt)?;
+    show_long(&rt)?;
+    show_texts_on(&rt, facts::none())?;
+    show_texts_on(&rt, facts::facts_of(facts::bit::SVE))?;
+    show_texts_on(&rt, facts::facts_of(facts::bit::SVE2))?;
+    show_texts_on(&rt, facts::facts_of(facts::bit::SME))?;
+    show_texts_on(&rt, facts::facts_of(facts::bit::SME2P1))
 }

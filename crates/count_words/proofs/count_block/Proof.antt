@@ -8,7 +8,7 @@ use Rattle.count_words.proofs.Tallies.{tally_none}
 use Rattle.count_words.proofs.count_block.Statement.{statement}
 use Rattle.count_words.proofs.count_block.Tie as tie
 
-returns-2 : tie.Need-returns-2
+returns-2 : tie.Need-returns-else-block_matches
 returns-2 c =
     sym
     (tally_none
@@ -16,7 +16,7 @@ returns-2 c =
     (c.before.before.args.upper * block_words)
     block_words
     c.before.before.requires.1
-    (c.before.block-matches.ensures.0 c.if1.false))
+    (c.before.block_matches.ensures.0 c.if-block_matches.false))
 
 pub count_block_spec : {M : Type 1} → statement M
 count_block_spec =

@@ -1,13 +1,12 @@
 -- `overwrite` meets its contract: the part that is lent comes back as the source's bytes.
 -- Assumes nothing.
-use Prim.Native.Nat.{ℕ, ◌+◌, ◌-◌}
+use Prim.Native.Nat.{ℕ, ◌+◌}
 use mathlib.Core.Path.{◌≡◌, ◌∙◌, ap}
 use mathlib.Core.List.{List}
 use native.Mathlib.Omega.{arith}
 use lib.ListN.{length}
 use Rattle.parts.specs.Part.{with_part}
 use Rattle.parts.proofs.Put.{put_part}
-use Rattle.parts.proofs.Parts.{copied_over}
 use borrow.Author.Rules.{rules}
 use Rattle.parts.proofs.overwrite.Statement.{statement}
 use Rattle.parts.proofs.overwrite.Tie as tie

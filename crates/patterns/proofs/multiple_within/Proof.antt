@@ -8,7 +8,7 @@ use Rattle.patterns.specs.Lanes.{multiple_within}
 use Rattle.patterns.proofs.multiple_within.Statement.{statement}
 use Rattle.patterns.proofs.multiple_within.Tie as tie
 
-sub-result : tie.Need-overflow-sub-result
+sub-result : tie.Need-overflow_sub-result
 sub-result c = omega (arith, mod-le c.args.count c.args.n)
 
 returns : tie.Need-returns

@@ -9,33 +9,33 @@ use Rattle.patterns.proofs.Texts.{Searched, searched_first, searched_here, searc
 use Rattle.patterns.proofs.pattern_named.Statement.{statement}
 use Rattle.patterns.proofs.pattern_named.Tie as tie
 
-abbrev invariant-loop : tie.invariant-loop
+abbrev invariant-loop : tie.invariant-loop-pattern
 invariant-loop text pattern₀ pattern = Searched text pattern
 
-abbrev decreases-loop : tie.decreases-loop
+abbrev decreases-loop : tie.decreases-loop-pattern
 decreases-loop text pattern₀ pattern = patterns - pattern
 
-loop-holds : tie.Need-loop-init invariant-loop decreases-loop
+loop-holds : tie.Need-loop-pattern-init invariant-loop decreases-loop
 loop-holds c = searched_first _
 
 -- within the loop
-abbrev in-loop : tie.After-is-text-of invariant-loop decreases-loop → tie.In-loop invariant-loop decreases-loop
+abbrev in-loop : tie.After-is_text_of invariant-loop decreases-loop → tie.In-loop-pattern invariant-loop decreases-loop
 in-loop c = c.before
 
-returns : tie.Need-returns invariant-loop decreases-loop
+returns : tie.Need-returns-then-is_text_of invariant-loop decreases-loop
 returns c =
     let tried = c.before in
     let l = in-loop tried in
-    searched_here l.before.loop.inv l.loop-test.taken (sym tried.is-text-of.ensures ∙ c.if1.true)
+    searched_here l.before.loop-pattern.invariant l.loop-pattern-test.true (sym tried.is_text_of.ensures ∙ c.if-is_text_of.true)
 
-loop-again : tie.Need-loop-preserved invariant-loop decreases-loop
+loop-again : tie.Need-loop-pattern-preserved invariant-loop decreases-loop
 loop-again c =
     let tried = c.before in
     let l = in-loop tried in
-    searched_next l.before.loop.inv l.loop-test.taken (sym tried.is-text-of.ensures ∙ c.if1.false)
+    searched_next l.before.loop-pattern.invariant l.loop-pattern-test.true (sym tried.is_text_of.ensures ∙ c.if-is_text_of.false)
 
-returns-2 : tie.Need-returns-2 invariant-loop decreases-loop
-returns-2 c = searched_all c.before.loop.invariant c.loop-test.false
+returns-2 : tie.Need-returns invariant-loop decreases-loop
+returns-2 c = searched_all c.before.loop-pattern.invariant c.loop-pattern-test.false
 
 pub pattern_named_spec : {M : Type 1} → statement M
 pattern_named_spec =

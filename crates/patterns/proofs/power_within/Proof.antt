@@ -6,20 +6,20 @@ use Rattle.patterns.proofs.Powers.{Leads, leads_first, leads_next, leads_last}
 use Rattle.patterns.proofs.power_within.Statement.{statement}
 use Rattle.patterns.proofs.power_within.Tie as tie
 
-abbrev invariant-loop : tie.invariant-loop
+abbrev invariant-loop : tie.invariant-loop-power
 invariant-loop count power₀ power = Leads count power
 
-abbrev decreases-loop : tie.decreases-loop
+abbrev decreases-loop : tie.decreases-loop-power
 decreases-loop count power₀ power = count - power
 
-loop-holds : tie.Need-loop-init invariant-loop decreases-loop
+loop-holds : tie.Need-loop-power-init invariant-loop decreases-loop
 loop-holds c = leads_first _
 
-loop-again : tie.Need-loop-preserved invariant-loop decreases-loop
-loop-again c = leads_next _ _ c.before.loop.invariant (omega arith)
+loop-again : tie.Need-loop-power-preserved invariant-loop decreases-loop
+loop-again c = leads_next _ _ c.before.loop-power.invariant (omega arith)
 
 returns : tie.Need-returns invariant-loop decreases-loop
-returns c = leads_last _ _ c.before.loop.invariant (omega arith)
+returns c = leads_last _ _ c.before.loop-power.invariant (omega arith)
 
 pub power_within_spec : {M : Type 1} → statement M
 power_within_spec =

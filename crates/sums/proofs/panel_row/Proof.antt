@@ -10,79 +10,79 @@ use Rattle.sums.proofs.Rows.{lane_inside, lane_place, counted_bytes, segment_le}
 use Rattle.sums.proofs.panel_row.Statement.{statement}
 use Rattle.sums.proofs.panel_row.Tie as tie
 
-abbrev invariant-loop : tie.invariant-loop
+abbrev invariant-loop : tie.invariant-loop-e
 invariant-loop register predicate w s count first row₀ e₀ row e = (e ≤ count) × Begun segment_bytes w e (panel_lane w predicate register s) row
 
-abbrev decreases-loop : tie.decreases-loop
+abbrev decreases-loop : tie.decreases-loop-e
 decreases-loop register predicate w s count first row₀ e₀ row e = count - e
 
 -- where the function starts, seen from the loop's head and from a turn, where a turn begins, and the number of its lane in the register
-abbrev begin : tie.At-loop invariant-loop decreases-loop → tie.Start invariant-loop decreases-loop
+abbrev begin : tie.At-loop-e invariant-loop decreases-loop → tie.Start invariant-loop decreases-loop
 begin c = c.before.before.before
 
-abbrev start : tie.In-loop invariant-loop decreases-loop → tie.Start invariant-loop decreases-loop
+abbrev start : tie.In-loop-e invariant-loop decreases-loop → tie.Start invariant-loop decreases-loop
 start c = begin c.before
 
-abbrev turn : tie.After-put-lane invariant-loop decreases-loop → tie.In-loop invariant-loop decreases-loop
+abbrev turn : tie.After-put_lane invariant-loop decreases-loop → tie.In-loop-e invariant-loop decreases-loop
 turn c = c.before.before.before
 
-abbrev number : tie.In-loop invariant-loop decreases-loop → ℕ
-number c = (start c).args.s * per_segment (start c).args.w + c.before.loop.e
+abbrev number : tie.In-loop-e invariant-loop decreases-loop → ℕ
+number c = (start c).args.s * per_segment (start c).args.w + c.before.loop-e.e
 
 -- the lane of a turn lies within the row
-inside_row : (c : tie.In-loop invariant-loop decreases-loop) → c.before.loop.e * (start c).args.w + (start c).args.w ≤ segment_bytes
-inside_row c = lane_inside (start c).args.w c.before.loop.e (start c).requires.fills c.loop-test.true
+inside_row : (c : tie.In-loop-e invariant-loop decreases-loop) → c.before.loop-e.e * (start c).args.w + (start c).args.w ≤ segment_bytes
+inside_row c = lane_inside (start c).args.w c.before.loop-e.e (start c).requires.fills c.loop-e-test.true
 
 -- the lane of a turn lies within the register
-inside : (c : tie.In-loop invariant-loop decreases-loop) → number c * (start c).args.w + (start c).args.w ≤ length (start c).args.register.now
-inside c = omega (arith, (start c).requires.inside, lane_place (start c).args.w (start c).args.s c.before.loop.e (start c).requires.fills, inside_row c)
+inside : (c : tie.In-loop-e invariant-loop decreases-loop) → number c * (start c).args.w + (start c).args.w ≤ length (start c).args.register.now
+inside c = omega (arith, (start c).requires.inside, lane_place (start c).args.w (start c).args.s c.before.loop-e.e (start c).requires.fills, inside_row c)
 
 -- the row has its sixteen bytes
-whole : (c : tie.In-loop invariant-loop decreases-loop) → length c.before.loop.row ≡ segment_bytes
-whole c = begun_length _ (start c).args.w c.before.loop.e _ _ (omega (arith, inside_row c)) c.before.loop.invariant.1
+whole : (c : tie.In-loop-e invariant-loop decreases-loop) → length c.before.loop-e.row ≡ segment_bytes
+whole c = begun_length _ (start c).args.w c.before.loop-e.e _ _ (omega (arith, inside_row c)) c.before.loop-e.invariant.1
 
-mul-first : tie.Need-overflow-mul-first invariant-loop decreases-loop
+mul-first : tie.Need-overflow_mul-first invariant-loop decreases-loop
 mul-first c =
     let s = c.before.before in
     omega (arith, s.requires.inside, segment_le s.args.w s.args.s s.requires.governs.least s.requires.fills)
 
-loop-holds : tie.Need-loop-init invariant-loop decreases-loop
+loop-holds : tie.Need-loop-e-init invariant-loop decreases-loop
 loop-holds c = let a = c.before.before.args in (omega arith, begun_none segment_bytes a.w (panel_lane a.w a.predicate.now a.register.now a.s))
 
-add-lane-value : tie.Need-overflow-add-lane-value invariant-loop decreases-loop
+add-lane-value : tie.Need-overflow_add-first invariant-loop decreases-loop
 add-lane-value c =
     let r = (start c).requires.governs in
     omega (arith, inside c, le-mul_of_pos_right (number c) r.least, r.covers, r.bits)
 
-lane-value-requires : tie.Need-lane-value-requires invariant-loop decreases-loop
+lane-value-requires : tie.Need-lane_value-n-requires invariant-loop decreases-loop
 lane-value-requires c κs = record { governs = (start c).requires.governs; inside = inside c }
 
-slice-aggregate-put-lane : tie.Need-slice-aggregate-put-lane invariant-loop decreases-loop
+slice-aggregate-put-lane : tie.Need-slice_bounds-put_lane-end invariant-loop decreases-loop
 slice-aggregate-put-lane c = sym (whole c.before.before)
 
-put-lane-requires : tie.Need-put-lane-requires invariant-loop decreases-loop
+put-lane-requires : tie.Need-put_lane-requires invariant-loop decreases-loop
 put-lane-requires c κs = rw (whole c.before.before) (inside_row c.before.before)
 
-add-e : tie.Need-overflow-add-e invariant-loop decreases-loop
-add-e c = let t = turn c.before in omega (arith, t.loop-test.taken, div-le_self 16 (start t).args.w)
+add-e : tie.Need-overflow_add-e invariant-loop decreases-loop
+add-e c = let t = turn c.before in omega (arith, t.loop-e-test.true, div-le_self 16 (start t).args.w)
 
-loop-again : tie.Need-loop-preserved invariant-loop decreases-loop
+loop-again : tie.Need-loop-e-preserved invariant-loop decreases-loop
 loop-again c =
     let l = turn c.before in
     let a = (start l).args in (
-      omega (arith, l.loop-test.taken),
+      omega (arith, l.loop-e-test.true),
       c.before.put_lane.ensures
-          ∙ begun_next segment_bytes a.w l.before.loop.e _ (panel_lane a.w a.predicate.now a.register.now a.s) l.before.loop.row
-          (ap (bytes_of a.w) c.before.before.before.lane-value.ensures
-          ∙ counted_bytes a.w (start l).pre.governs.most (active a.w (number l) a.predicate.now) (lane a.w (number l) a.register.now))
-          l.before.loop.inv.1,
+          ∙ begun_next segment_bytes a.w l.before.loop-e.e _ (panel_lane a.w a.predicate.now a.register.now a.s) l.before.loop-e.row
+          (ap (bytes_of a.w) c.before.before.before.lane_value-n.ensures
+          ∙ counted_bytes a.w (start l).requires.governs.most (active a.w (number l) a.predicate.now) (lane a.w (number l) a.register.now))
+          l.before.loop-e.invariant.1,
     )
 
 returns : tie.Need-returns invariant-loop decreases-loop
 returns c =
     let s = begin c.before in
-    begun_all segment_bytes s.args.w c.before.loop.e _ _ c.before.loop.row (omega (arith, c.loop-test.false, c.before.loop.invariant.0))
-    s.pre.fills c.before.loop.invariant.1
+    begun_all segment_bytes s.args.w c.before.loop-e.e _ _ c.before.loop-e.row (omega (arith, c.loop-e-test.false, c.before.loop-e.invariant.0))
+    s.requires.fills c.before.loop-e.invariant.1
 
 pub panel_row_spec : {M : Type 1} → statement M
 panel_row_spec =

@@ -8,7 +8,7 @@ use Rattle.sums.proofs.sum_few.Statement.{statement}
 use Rattle.sums.proofs.sum_few.Tie as tie
 
 -- where both lanes are read from
-abbrev start : tie.Else1 → tie.Start
+abbrev start : tie.Else-a-b → tie.Start
 start c = c.before.before.before
 
 -- what a lane adds, and the sum of the lanes from a on
@@ -18,39 +18,39 @@ adds s = active_element s.args.signed s.args.w s.args.predicate.now s.args.regis
 abbrev sum : tie.Start → ℕ → ℕ
 sum s b = range_sum 64 (adds s) s.args.a b
 
-first : (c : tie.After-lane-value) → c.lane-value.result ≡ sum (start c.before) ((start c.before).args.a + 1)
+first : (c : tie.After-lane_value-first) → c.lane_value-first.result ≡ sum (start c.before) ((start c.before).args.a + 1)
 first c =
     let s = start c.before in
-    c.lane-value.ensures ∙ sym (sum_one 64 (adds s) s.args.a)
+    c.lane_value-first.ensures ∙ sym (sum_one 64 (adds s) s.args.a)
 
-returns : tie.Need-returns
+returns : tie.Need-returns-then-a-b
 returns c =
     let s = c.before.before.before in
-    sym (ap (sum s) (sym c.if1.true) ∙ sum_none 64 (adds s) s.args.a)
+    sym (ap (sum s) (sym c.if-a-b.true) ∙ sum_none 64 (adds s) s.args.a)
 
-lane-value-requires : tie.Need-lane-value-requires
+lane-value-requires : tie.Need-lane_value-first-requires
 lane-value-requires c κs =
     let s = start c in
-    record { governs = s.pre.0.governs; inside = omega (arith, s.pre.0.inside, place_within s.args.a s.args.b s.args.w (omega arith)) }
+    record { governs = s.requires.0.governs; inside = omega (arith, s.requires.0.inside, place_within s.args.a s.args.b s.args.w (omega arith)) }
 
-returns-2 : tie.Need-returns-2
+returns-2 : tie.Need-returns-then-b-a-eq1
 returns-2 c =
     let s = start c.before.before in
     let one : s.args.a + 1 ≡ s.args.b = omega arith in
     first c.before ∙ ap (sum s) one
 
-lane-value-requires-2 : tie.Need-lane-value-requires-2
+lane-value-requires-2 : tie.Need-lane_value-second-requires
 lane-value-requires-2 c κs =
     let s = start c.before.before in
-    record { governs = s.pre.0.governs; inside = omega (arith, s.pre.0.inside, place_within (s.args.a + 1) s.args.b s.args.w (omega arith)) }
+    record { governs = s.requires.0.governs; inside = omega (arith, s.requires.0.inside, place_within (s.args.a + 1) s.args.b s.args.w (omega arith)) }
 
-returns-3 : tie.Need-returns-3
+returns-3 : tie.Need-returns
 returns-3 c =
     let l = c.before.before.before in
     let s = start l.before in
     let two : s.args.a + 1 + 1 ≡ s.args.b = omega arith in
-    c.wrapping-add-u64.ensures
-    ∙ ap₂ (λ (m n : ℕ). (m + n) % 2 ^ 64) (first l) c.before.lane-value2.ensures
+    c.wrapping_add_u64.ensures
+    ∙ ap₂ (λ (m n : ℕ). (m + n) % 2 ^ 64) (first l) c.before.lane_value-second.ensures
     ∙ sym (sum_next 64 (adds s) s.args.a (s.args.a + 1) (omega arith))
     ∙ ap (sum s) two
 
