@@ -1,7 +1,7 @@
 -- The paper's numbers beside the names that stand for them: the refusals in the order of its table, the order in which they are tested, and the sizes at the
 -- least length and the most.
 -- Assumes nothing.
-use Prim.Native.Nat.{ℕ, ◌*◌}
+use Prim.Native.Nat.{◌*◌}
 use mathlib.Core.Path.{◌≡◌, refl}
 use mathlib.Core.Bool.{true}
 use mathlib.Core.List.{List, [], ◌∷◌, map}

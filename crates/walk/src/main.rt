@@ -1,20 +1,29 @@
 // Reads a session from standard input and writes its walk to standard output: a line for each step until one is refused.
 #![tactic(auto)]
 
-ghost use Rattle.std.specs.Prelude.{◌≤◌, ◌<◌, length};
-ghost use Rattle.io.specs.Counts.{IsPrefixLen};
+ghost use Rattle.std.specs.Prelude.{◌≤◌, ◌<◌, length, IfOk};
+ghost use Rattle.walk.specs.Counts.{IsPrefixLen};
 ghost use Rattle.digits.specs.Put.{Put};
 ghost use Rattle.session.specs.Layout.{most_session};
 ghost use Rattle.walks.specs.Output.{output_of, most_output};
 
-use libc::{STDIN_FILENO, STDOUT_FILENO};
+use std::io;
+use std::io::Read;
 
 // Reads the input into room that the longest session does not fill, so that a longer input is seen and refused.
-fn read_input(input: &mut [u8]) -> usize
+fn read_input<R: Read>(reader: &mut R, input: &mut [u8]) -> io::Result<usize>
     requires { most_session < length input.old }
-    ensures { IsPrefixLen result input.new }
+    ensures { IfOk result (λ count. IsPrefixLen count input.new) }
 {
-    io::read_full(STDIN_FILENO, input)
+    let mut count = 0;
+    while count < input.len() {
+        let more = reader.read(&mut input[count..])?;
+        if more == 0 {
+            break;
+        }
+        count += more;
+    }
+    Ok(count)
 }
 
 // Writes the walk of what was read into room for the longest output, and answers its length.
@@ -27,10 +36,10 @@ fn write_walk(output: &mut [u8], input: &[u8]) -> usize
     written.value as usize
 }
 
-fn main() {
+fn main(rt: HostRuntime) -> io::Result<()> {
     let mut input = [0u8; session::MOST_SESSION + 1];
-    let count = read_input(&mut input);
+    let count = read_input(&mut rt.reader(), &mut input)?;
     let mut output = [0u8; walks::MOST_OUTPUT];
     let length = write_walk(&mut output, &input[..count]);
-    io::write_all(STDOUT_FILENO, &output[..length]);
+    rt.write_all(&output[..length])
 }

@@ -10,8 +10,8 @@ returns : tie.Need-returns
 returns c =
     let a = c.before.before.before.before.args in
     let half = element a.signed (a.w / 2) a.operand.now in
-    c.wrapping-add-u64.ensures
-    ∙ ap₂ (λ (x y : ℕ). (x + y) % 2 ^ 64) c.before.before.half_at.ensures c.before.half-at2.ensures
+    c.wrapping_add_u64.ensures
+    ∙ ap₂ (λ (x y : ℕ). (x + y) % 2 ^ 64) c.before.before.half_at-bottom.ensures c.before.half_at-top.ensures
     ∙ sym (residue_two 64 (half (2 * a.e + 0)) (half (2 * a.e + 1)))
 
 pub pair_sum_spec : {M : Type 1} → statement M

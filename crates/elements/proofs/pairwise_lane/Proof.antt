@@ -10,29 +10,29 @@ use Rattle.elements.proofs.pairwise_lane.Statement.{statement}
 use Rattle.elements.proofs.pairwise_lane.Tie as tie
 
 -- where the function starts, and where the old lane is read
-abbrev start : tie.After-shared-slice-known3 → tie.Start
+abbrev start : tie.After-shared_slice_known-3-1 → tie.Start
 start c = c.before.before.before
 
-abbrev kept : tie.After-pair-sum → tie.After-lane
+abbrev kept : tie.After-pair_sum-gained → tie.After-lane-old
 kept c = c.before.before.before
 
 -- the old lane is its own 64 digits
-old : (c : tie.After-lane)
+old : (c : tie.After-lane-old)
     → let a = (start c.before).args in
-    c.lane.result ≡ residue 64 (pos (lane a.w a.e a.d.now))
-old c = omega (arith, c.lane.ensures, c.lane.type-inv)
+    c.lane-old.result ≡ residue 64 (pos (lane a.w a.e a.d.now))
+old c = omega (arith, c.lane-old.ensures, c.lane-old.type_inv)
 
-returns : tie.Need-returns
-returns c = rw (sym c.before.is-active.ensures ∙ not-true _ c.if1.true) (omega (arith, old c.before.before))
+returns : tie.Need-returns-then-not-is_active
+returns c = rw (sym c.before.is_active.ensures ∙ c.if-not-is_active.true) (omega (arith, old c.before.before))
 
-returns-2 : tie.Need-returns-2
+returns-2 : tie.Need-returns
 returns-2 c =
     let l = kept c.before in
     let a = (start l.before).args in
     let half = element a.signed (a.w / 2) a.n.now in
-    rw (sym c.before.before.before.is-active.ensures ∙ not-false _ c.before.before.if1.false)
-    (c.wrapping-add-u64.ensures
-    ∙ ap₂ (λ (x y : ℕ). (x + y) % 2 ^ 64) (old l) c.before.pair-sum.ensures
+    rw (sym c.before.before.before.is_active.ensures ∙ c.before.before.if-not-is_active.false)
+    (c.wrapping_add_u64.ensures
+    ∙ ap₂ (λ (x y : ℕ). (x + y) % 2 ^ 64) (old l) c.before.pair_sum-gained.ensures
     ∙ sym (residue_sum 64 (pos (lane a.w a.e a.d.now)) (total (half (2 * a.e + 0) ∷ half (2 * a.e + 1) ∷ []))))
 
 pub pairwise_lane_spec : {M : Type 1} → statement M

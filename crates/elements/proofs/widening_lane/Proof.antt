@@ -7,7 +7,7 @@ use Rattle.elements.proofs.widening_lane.Statement.{statement}
 use Rattle.elements.proofs.widening_lane.Tie as tie
 
 -- where the function starts, and the elements that it adds or subtracts
-abbrev start : tie.After-half-at → tie.Start
+abbrev start : tie.After-half_at-second → tie.Start
 start c = c.before.before.before.before
 
 abbrev operands : tie.Start → Operands
@@ -19,19 +19,19 @@ element1 s = element_of (operands s) (first_term s.args.parameters s.args.w s.ar
 abbrev element2 : tie.Start → ℤ
 element2 s = element_of (operands s) (half_term Operand2 s.args.parameters s.args.w s.args.e)
 
-returns : tie.Need-returns
+returns : tie.Need-returns-then-parameters
 returns c =
     let h = c.before.before in
-    rw c.before.if1.true
-    (residue_less 64 (element1 (start h)) (element2 (start h)) c.wrapping-sub-u64.result c.wrapping-sub-u64.type-inv
-    (sym (ap (λ (y : ℕ). (c.wrapping-sub-u64.result + y) % 2 ^ 64) h.half_at.ensures) ∙ c.wrapping-sub-u64.ensures ∙ h.before.first-element.ensures))
+    rw c.before.if-parameters.true
+    (residue_less 64 (element1 (start h)) (element2 (start h)) c.wrapping_sub_u64.result c.wrapping_sub_u64.type_inv
+    (sym (ap (λ (y : ℕ). (c.wrapping_sub_u64.result + y) % 2 ^ 64) h.half_at-second.ensures) ∙ c.wrapping_sub_u64.ensures ∙ h.before.first_element-first.ensures))
 
-returns-2 : tie.Need-returns-2
+returns-2 : tie.Need-returns-else-parameters
 returns-2 c =
     let h = c.before.before in
-    rw c.before.if1.false
-    (c.wrapping-add-u64.ensures
-    ∙ ap₂ (λ (x y : ℕ). (x + y) % 2 ^ 64) h.before.first-element.ensures h.half_at.ensures
+    rw c.before.if-parameters.false
+    (c.wrapping_add_u64.ensures
+    ∙ ap₂ (λ (x y : ℕ). (x + y) % 2 ^ 64) h.before.first_element-first.ensures h.half_at-second.ensures
     ∙ sym (residue_two 64 (element1 (start h)) (element2 (start h))))
 
 pub widening_lane_spec : {M : Type 1} → statement M

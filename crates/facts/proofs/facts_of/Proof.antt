@@ -1,7 +1,6 @@
 -- `facts_of` meets its contract: each flag is its bit's.
 -- Assumes nothing.
 use borrow.Author.Rules.{rules}
-use mathlib.Core.Path.{◌≡◌}
 use Rattle.facts.specs.Facts.{facts_of}
 use Rattle.facts.proofs.facts_of.Statement.{statement}
 use Rattle.facts.proofs.facts_of.Tie as tie

@@ -21,10 +21,10 @@ data_bytes_lem (suc zero) h = refl
 data_bytes_lem (suc (suc q)) h = absurd (omega arith)
 
 -- where the function starts, seen from where the sum is made
-abbrev start : tie.After-sum-every → tie.Start
+abbrev start : tie.After-sum_every → tie.Start
 start c = c.before.before
 
-sum-every-requires : tie.Need-sum-every-requires
+sum-every-requires : tie.Need-sum_every-requires
 sum-every-requires c κs =
     let s = c.before in
     record {
@@ -38,8 +38,8 @@ returns c =
     let s = start c.before in
     c.scalar.ensures
     ∙ ap (λ (sum : ℕ). padded segment_bytes (bytes_of (2 * s.args.w) sum))
-    (c.before.sum-every.ensures
-    ∙ ap (λ (bytes : ℕ). residue 64 (total (each (element s.args.signed s.args.w s.args.n.now) 0 (bytes / s.args.w)))) (data_bytes_lem s.args.q s.pre.low))
+    (c.before.sum_every.ensures
+    ∙ ap (λ (bytes : ℕ). residue 64 (total (each (element s.args.signed s.args.w s.args.n.now) 0 (bytes / s.args.w)))) (data_bytes_lem s.args.q s.requires.low))
 
 pub long_low_spec : {M : Type 1} → statement M
 long_low_spec =

@@ -11,8 +11,8 @@ use Rattle.walk.proofs.write_walk.Tie as tie
 returns : tie.Need-returns
 returns c =
     let written = c.before.before in
-    let within = output_within _ _ _ written.write-output.result written.write-output.ensures in
-    (output_put _ _ _ written.write-output.result written.before.before.before.before.requires written.write-output.ensures, (within, sym (length-take-le _ _ within)))
+    let within = output_within _ _ _ written.write_output-written.result written.write_output-written.ensures in
+    (output_put _ _ _ written.write_output-written.result written.before.before.before.before.requires written.write_output-written.ensures, (within, sym (length-take-le _ _ within)))
 
 pub write_walk_spec : {M : Type 1} → statement M
 write_walk_spec = tie.close (tie.spec (λ c κs. search rules) (λ c. search rules) returns)
