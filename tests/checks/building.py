@@ -84,7 +84,7 @@ def together(checkout):
     expect(checkout.called() == 0, "one of eight calls rt in a built checkout")
     one_builds(checkout.unbuilt(), "run: the program walk is not built yet: ")
     os.remove(checkout.at("target/run.stamp"))
-    one_builds(checkout, "run: walk's crates have changed since it was built: ")
+    one_builds(checkout, "run: whether walk's crates have changed since it was built cannot be told: they are proved again")
 
 
 def one_builds(checkout, first):

@@ -1,9 +1,9 @@
 -- What a call leaves: with a refusal all as it stood, else what it makes; and a contract that says what is left tells number and buffers.
 -- Assumes nothing.
-use Prim.Native.Nat.{ℕ, zero, suc}
-use mathlib.Core.Path.{◌≡◌, refl, sym, ◌∙◌, ap}
+use Prim.Native.Nat.{ℕ}
+use mathlib.Core.Path.{◌≡◌, sym, ◌∙◌, ap}
 use mathlib.Core.List.{List}
-use Rattle.machine.specs.Refusal.{Test, refused, unless_refused}
+use Rattle.machine.specs.Refusal.{Test, refused}
 use Rattle.machine.proofs.Tests.{unless_refused_lem}
 use Rattle.journal.specs.Left.{Left, left_with, leaving}
 

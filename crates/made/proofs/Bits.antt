@@ -1,7 +1,7 @@
 -- The number of some bits: it has as many digits, and each digit is its bit. Bits that agree make the same number, bits that are all clear
 -- make zero, and those that are clear from one on make the low digits.
 -- Assumes nothing.
-use Prim.Native.Nat.{ℕ, zero, suc, ◌+◌, ◌-◌, ◌*◌, ◌/◌, ◌%◌, ◌^◌, ◌≤◌, ◌<◌}
+use Prim.Native.Nat.{ℕ, zero, suc, ◌+◌, ◌*◌, ◌/◌, ◌%◌, ◌^◌, ◌≤◌, ◌<◌}
 use mathlib.Core.Path.{◌≡◌, refl, sym, ◌∙◌, ap, ap₂}
 use mathlib.Core.Bool.{Bool, true, false}
 use native.Mathlib.Nat.{pow-suc, mul_comm, div-div-eq-div-mul, add-mul-div_left, add-mul-mod_self_left, div-one, div-eq_of_lt, mod-one, mod-eq_of_lt}

@@ -1,7 +1,7 @@
 -- A sum of a range that is split at its middle, each half in the same way down to single lanes, is the sum in lane order: by induction on a
 -- bound of the range's lanes, of which each half of two or more has fewer.
 -- Assumes nothing.
-use Rattle.std.proofs.Common.{◌≡◌, ℕ, zero, suc, ◌+◌, ◌-◌, ◌/◌, ◌%◌, ◌^◌, ◌<◌, ◌≤◌, Bool, true, false, cond, eqb, leb, List, ℤ, sym, refl, ap, ◌∙◌, ap₂, arith, eqb-true, leb-false, leb-true}
+use Rattle.std.proofs.Common.{◌≡◌, ℕ, zero, suc, ◌+◌, ◌-◌, ◌%◌, ◌^◌, ◌<◌, ◌≤◌, Bool, true, false, cond, eqb, leb, List, ℤ, sym, refl, ap, ◌∙◌, ap₂, arith, eqb-true, leb-false, leb-true}
 use borrow.Author.Tests.{eqb-false}
 use Rattle.lanes.specs.Integer.{residue}
 use Rattle.lanes.specs.Sum.{each, active_element, total}

@@ -15,7 +15,6 @@ use Rattle.lanes.specs.Lane.{width_of, active}
 use Rattle.lanes.specs.Integer.{residue}
 use Rattle.lanes.specs.Sum.{each, element, counted, active_element, wrapped_sum}
 use Rattle.lanes.proofs.Sums.{wrapped_sum_lem, same_each, map_each}
-use Rattle.sums.specs.Sums.{lane_sum}
 use Rattle.totals.specs.Calls.{lanes_at, subtotal_refused, subtotal_answer}
 use Rattle.totals.specs.Lane.{lane_tests, lane_refused, lane_told, lane_answer, lane_adds}
 use Rattle.totals.specs.declared.Lane.{Lane}

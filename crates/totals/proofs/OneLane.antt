@@ -1,17 +1,15 @@
 -- What the tests of a lane tell: where none is given, the lane lies in its register and its bit in the predicate register.
 -- Assumes nothing.
-use Prim.Native.Nat.{ℕ, suc, ◌+◌, ◌*◌, ◌/◌, ◌≤◌, ◌<◌, ◌^◌}
+use Prim.Native.Nat.{ℕ, suc, ◌+◌, ◌*◌, ◌≤◌, ◌<◌}
 use mathlib.Core.Path.{◌≡◌, refl}
 use mathlib.Core.Bool.{Bool}
 use mathlib.Core.List.{List}
 use native.Mathlib.Omega.{arith}
-use native.Mathlib.Numerals.{add-one}
 use lib.Dec.{ltb}
 use lib.ListN.{length}
 use borrow.Author.Tests.{ltb-true, not-false, eq-eqb, lt-ltb}
-use Rattle.parts.specs.Part.{both}
 use Rattle.parts.proofs.Same.{both_left, both_right}
-use Rattle.machine.specs.Size.{vectors, predicates, sizes, vector_bytes, vector_file, predicate_file, Files}
+use Rattle.machine.specs.Size.{vectors, predicates, sizes, vector_file, predicate_file}
 use Rattle.machine.specs.Refusal.{DONE, files_tests}
 use Rattle.machine.proofs.Tests.{first_none, none_refused}
 use Rattle.machine.proofs.Checks.{files_checked}

@@ -3,10 +3,10 @@
 -- gave up.
 -- Assumes nothing.
 use Prim.Native.Nat.{ℕ}
-use mathlib.Core.Path.{◌≡◌, refl, sym, ◌∙◌, ap, ap₂}
+use mathlib.Core.Path.{◌≡◌, sym, ◌∙◌, ap, ap₂}
 use mathlib.Core.List.{List}
 use native.Mathlib.Omega.{arith}
-use lib.ListN.{length, replicate}
+use lib.ListN.{replicate}
 use Rattle.parts.specs.Part.{part}
 use Rattle.machine.specs.Refusal.{DONE}
 use Rattle.registers.specs.Register.{Register}
@@ -20,7 +20,7 @@ use Rattle.entries.specs.Restored.{entry_of, restored}
 use Rattle.entries.proofs.Places.{count_bytes_lem}
 use Rattle.entries.proofs.Restored.{entry_whole, entry_restored}
 use Rattle.entries.proofs.Written.{Room, held_pushed, last_pushed, formed_pushed, popped_pushed}
-use Rattle.journal.specs.Left.{Core, Buffers, buffers_of, Left, left_with}
+use Rattle.journal.specs.Left.{Core, Buffers, buffers_of, left_with}
 use Rattle.journal.proofs.Left.{number_left, buffers_left}
 use Rattle.journal.proofs.Accepted.{Returning}
 use Rattle.steps.specs.Calls.{fields_now, carried_out, stepped, backed, Stepped}

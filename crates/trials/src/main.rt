@@ -6,8 +6,8 @@ ghost use Rattle.machine.specs.Size.{most_length};
 ghost use Rattle.entries.specs.Layout.{most_journal};
 
 use facts::Facts;
-use libc::STDOUT_FILENO;
 use machine::Length;
+use std::io;
 
 // The directions of a run, their seed, and how many there are to choose from: one of three is back.
 const DIRECTIONS: usize = 1200;
@@ -25,9 +25,8 @@ struct Run {
 }
 
 // Shows a figure and the space after it.
-fn show_figure(figure: u64) {
-    io::print_decimal(STDOUT_FILENO, figure);
-    io::write_all(STDOUT_FILENO, b" ");
+fn show_figure(rt: &impl Print, figure: u64) -> io::Result<()> {
+    print!(rt; "{figure} ")
 }
 
 // Whether the bytes are those of a plain walk of so many words, made in the other buffers.
@@ -58,7 +57,9 @@ fn is_walked(
     ) {
         return false;
     }
-    parts::same_bytes(plain_z, z) && parts::same(plain_p, p) && parts::same(plain_journal, journal)
+    parts::same_bytes(plain_z, z)
+        && parts::same_bytes(plain_p, p)
+        && parts::same_bytes(plain_journal, journal)
 }
 
 // Whether the bytes are those of a plain walk of so many words.
@@ -91,58 +92,71 @@ fn is_plain(run: Run, z: &[u8], p: &[u8], program: &[u8], journal: &[u8], steps:
 }
 
 // Shows whether a run's bytes are those of the plain walk.
-fn show_same(same: bool) {
+fn show_same(rt: &impl Print, same: bool) -> io::Result<()> {
     if same {
-        io::write_all(STDOUT_FILENO, b"same\n");
+        rt.println("same")
     } else {
-        io::write_all(STDOUT_FILENO, b"differs\n");
+        rt.println("differs")
     }
 }
 
 // Shows a run over filled buffers: how many steps of each direction are accepted, and whether all bytes are the plain walk's.
 fn show_steps(
+    rt: &impl Print,
     run: Run,
     z: &mut [u8],
     p: &mut [u8],
     program: &[u8],
     journal: &mut [u8],
     directions: &[u8],
-)
+) -> io::Result<()>
     requires { run.k ≤ most_length }
 {
     journal::fresh(run.k, run.version, journal);
     let made = travel::travel(run.k, run.facts, z, p, program, journal, directions);
-    show_figure(made.forward as u64);
-    show_figure(made.back as u64);
+    show_figure(rt, made.forward as u64)?;
+    show_figure(rt, made.back as u64)?;
     let mut same = false;
     if made.back <= made.forward {
         same = is_plain(run, z, p, program, journal, made.forward - made.back);
     }
-    show_same(same);
+    show_same(rt, same)
 }
 
 // Shows a run over files, with a program and directions that it fills.
-fn show_files(run: Run, z: &mut [u8], p: &mut [u8], journal: &mut [u8])
+fn show_files(
+    rt: &impl Print,
+    run: Run,
+    z: &mut [u8],
+    p: &mut [u8],
+    journal: &mut [u8],
+) -> io::Result<()>
     requires { run.k ≤ most_length }
 {
     let mut program = [0u8; Length::WORD_BYTES * Length::MOST_WORDS];
     let mut directions = [0u8; DIRECTIONS];
     fillings::fill_words(&mut program);
     fillings::fill(&mut directions, DIRECTION_SEED, CHOICES);
-    show_steps(run, z, p, &program, journal, &directions);
+    show_steps(rt, run, z, p, &program, journal, &directions)
 }
 
 // Shows a run over files that it fills.
-fn show_filled(run: Run, z: &mut [u8], p: &mut [u8], journal: &mut [u8])
+fn show_filled(
+    rt: &impl Print,
+    run: Run,
+    z: &mut [u8],
+    p: &mut [u8],
+    journal: &mut [u8],
+) -> io::Result<()>
     requires { run.k ≤ most_length }
 {
     fillings::fill_vectors(z);
     fillings::fill_predicates(p);
-    show_files(run, z, p, journal);
+    show_files(rt, run, z, p, journal)
 }
 
 // Shows a run over the bytes of a journal.
-fn show_journal(run: Run, journal: &mut [u8])
+fn show_journal(rt: &impl Print, run: Run, journal: &mut [u8]) -> io::Result<()>
     requires { run.k ≤ most_length }
 {
     let length = Length { k: run.k };
@@ -150,52 +164,52 @@ fn show_journal(run: Run, journal: &mut [u8])
     let predicates = length.predicate_file();
     let mut z = [0u8; fillings::MOST_VECTORS];
     let mut p = [0u8; fillings::MOST_PREDICATES];
-    show_filled(run, &mut z[..vectors], &mut p[..predicates], journal);
+    show_filled(rt, run, &mut z[..vectors], &mut p[..predicates], journal)
 }
 
 // Shows a run at a length on a core whose facts a byte tells, with a journal of a version and of so many bytes.
-fn show_run(k: usize, version: usize, byte: u8, room: usize)
+fn show_run(rt: &impl Print, k: usize, version: usize, byte: u8, room: usize) -> io::Result<()>
     requires { (k ≤ most_length) × (room ≤ most_journal) }
 {
     let mut journal = [0u8; entries::MOST];
-    show_figure(k as u64);
-    show_figure(version as u64);
-    show_figure(byte as u64);
-    show_figure(room as u64);
+    show_figure(rt, k as u64)?;
+    show_figure(rt, version as u64)?;
+    show_figure(rt, byte as u64)?;
+    show_figure(rt, room as u64)?;
     let facts = facts::facts_of(byte);
-    show_journal(Run { k, version, facts }, &mut journal[..room]);
+    show_journal(rt, Run { k, version, facts }, &mut journal[..room])
 }
 
 // Shows runs at a length on a core with all facts, with a journal of no entry, of one entry less a byte, of one entry, and of the most bytes; and with
 // the most bytes of the former version, where a run is held up before the first word that makes a predicate.
-fn show_length(k: usize)
+fn show_length(rt: &impl Print, k: usize) -> io::Result<()>
     requires { k ≤ most_length }
 {
     let entry = plain::HEADER + plain::NUMBER + Length { k }.vector_bytes();
-    show_run(k, entries::CURRENT_VERSION, facts::ALL, plain::HEADER);
-    show_run(k, entries::CURRENT_VERSION, facts::ALL, entry - 1);
-    show_run(k, entries::CURRENT_VERSION, facts::ALL, entry);
-    show_run(k, entries::CURRENT_VERSION, facts::ALL, entries::MOST);
-    show_run(k, entries::FORMER_VERSION, facts::ALL, entries::MOST);
+    show_run(rt, k, entries::CURRENT_VERSION, facts::ALL, plain::HEADER)?;
+    show_run(rt, k, entries::CURRENT_VERSION, facts::ALL, entry - 1)?;
+    show_run(rt, k, entries::CURRENT_VERSION, facts::ALL, entry)?;
+    show_run(rt, k, entries::CURRENT_VERSION, facts::ALL, entries::MOST)?;
+    show_run(rt, k, entries::FORMER_VERSION, facts::ALL, entries::MOST)
 }
 
 // Shows a run on a core whose facts a byte tells, with room for every step.
-fn show_core(byte: u8) {
-    show_run(4, entries::CURRENT_VERSION, byte, entries::MOST);
+fn show_core(rt: &impl Print, byte: u8) -> io::Result<()> {
+    show_run(rt, 4, entries::CURRENT_VERSION, byte, entries::MOST)
 }
 
 // Shows runs on five cores: each is held up before the first word that its core does not accept, and the last core accepts all of them.
-fn show_cores() {
-    show_core(0);
-    show_core(facts::bit::SVE);
-    show_core(facts::bit::SVE + facts::bit::SVE2);
-    show_core(facts::bit::SME);
-    show_core(facts::bit::SVE + facts::bit::SVE2 + facts::bit::SVE2P1);
+fn show_cores(rt: &impl Print) -> io::Result<()> {
+    show_core(rt, 0)?;
+    show_core(rt, facts::bit::SVE)?;
+    show_core(rt, facts::bit::SVE + facts::bit::SVE2)?;
+    show_core(rt, facts::bit::SME)?;
+    show_core(rt, facts::bit::SVE + facts::bit::SVE2 + facts::bit::SVE2P1)
 }
 
-fn main() {
-    show_length(Length::least().k);
-    show_length(4);
-    show_length(Length::most().k);
-    show_cores();
+fn main(rt: HostRuntime) -> io::Result<()> {
+    show_length(&rt, Length::least().k)?;
+    show_length(&rt, 4)?;
+    show_length(&rt, Length::most().k)?;
+    show_cores(&rt)
 }

@@ -1,7 +1,6 @@
 -- `pairwise_lane` meets its contract: an inactive lane keeps its number, which 64 digits hold; an active one gains its half elements.
 -- Assumes nothing.
 use Rattle.std.proofs.Common.{◌≡◌, ℕ, ◌+◌, ◌*◌, ◌/◌, ◌%◌, ◌^◌, [], ◌∷◌, pos, sym, ◌∙◌, ap₂, arith, rules}
-use borrow.Author.Tests.{not-true, not-false}
 use Rattle.lanes.specs.Lane.{lane}
 use Rattle.lanes.specs.Integer.{residue}
 use Rattle.lanes.specs.Sum.{element, total}

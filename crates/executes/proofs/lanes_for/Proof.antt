@@ -8,15 +8,15 @@ use Rattle.meaning.specs.Execute.{lanes_made}
 use Rattle.executes.proofs.lanes_for.Statement.{statement}
 use Rattle.executes.proofs.lanes_for.Tie as tie
 
-div_count : tie.Need-nonzero-div-count
-div_count c = rw c.width_of_lem.ensures (pow_pos _)
+div_count : tie.Need-nonzero_div-count
+div_count c = rw c.width_of.ensures (pow_pos _)
 
 returns : tie.Need-returns
 returns c =
     let w = c.before in
     let f = w.before.before.args.f in
-    c.lanes-made.ensures
-    ∙ ap₂ (λ (bytes width : ℕ). lanes_made w.before.before.args.made f.pattern (bytes / width)) w.before.register-bytes.ensures w.width_of_lem.ensures
+    c.lanes_made.ensures
+    ∙ ap₂ (λ (bytes width : ℕ). lanes_made w.before.before.args.made f.pattern (bytes / width)) w.before.register_bytes.ensures w.width_of.ensures
 
 pub lanes_for_spec : {M : Type 1} → statement M
 lanes_for_spec = tie.close (tie.spec (λ c κs. search rules) (λ c κs. search rules) div_count (λ c κs. search rules) returns)

@@ -1,7 +1,7 @@
 -- `make` meets its contract: the register's place lies within the file, and the predicate that is made stands between the bytes around it.
 -- Assumes nothing.
 use borrow.Author.Rules.{rules}
-use Prim.Native.Nat.{ℕ, ◌+◌, ◌-◌, ◌≤◌}
+use Prim.Native.Nat.{ℕ, ◌+◌, ◌≤◌}
 use native.Mathlib.Omega.{arith}
 use lib.ListN.{length}
 use Rattle.registers.specs.declared.Kind.TheVariants.{Predicate}
@@ -12,15 +12,15 @@ use Rattle.executes.proofs.make.Statement.{statement}
 use Rattle.executes.proofs.make.Tie as tie
 
 -- the register ends within the file
-within : (c : tie.After-register-bytes) → c.before.register-at.result + c.register-bytes.result ≤ length c.before.before.before.args.p.now
+within : (c : tie.After-register_bytes) → c.before.register_at-at.result + c.register_bytes.result ≤ length c.before.before.before.args.p.now
 within c =
     let s = c.before.before.before in
-    rw (c.before.register-at.ensures, c.register-bytes.ensures) (register_inside s.args.k Predicate s.args.d s.args.p.now s.requires.0)
+    rw (c.before.register_at-at.ensures, c.register_bytes.ensures) (register_inside s.args.k Predicate s.args.d s.args.p.now s.requires.0)
 
-add-end : tie.Need-overflow-add-end
+add-end : tie.Need-overflow_add-end
 add-end c = omega (arith, within c)
 
-part_end : tie.Need-slice-bounds-put-made-end
+part_end : tie.Need-slice_bounds-put_made-end
 part_end c = within c
 
 returns : tie.Need-returns
@@ -28,14 +28,14 @@ returns c =
     let w = c.before.before in
     let place = w.before.before.before in
     let s = place.before.before in
-    put_register s.args.k Predicate s.args.d place.register-at.result w.before.before.register-bytes.result
+    put_register s.args.k Predicate s.args.d place.register_at-at.result w.before.before.register_bytes.result
     s.args.p.now
-    w.put-made.new.0
+    w.put_made.new.register
     (λ (n : ℕ). made_bytes n s.args.size s.args.lanes)
     s.requires.0
-    place.register-at.ensures
-    w.before.before.register-bytes.ensures
-    w.put-made.ensures
+    place.register_at-at.ensures
+    w.before.before.register_bytes.ensures
+    w.put_made.ensures
 
 pub make_spec : {M : Type 1} → statement M
 make_spec =

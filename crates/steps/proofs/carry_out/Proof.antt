@@ -28,19 +28,19 @@ carried : (k : ℕ) (kind : Kind) (f : Fields) (b : Buffers) (files : State) (en
     → buffers_of files entries ≡ carried_out k f b
 carried k kind f b files entries writes is e = ap₂ buffers_of is (e ∙ ap (λ (entry : Entry). pushed k entry b.journal) (entry_is k kind f b.files writes))
 
-append-target-requires : tie.Need-append-target-requires
-append-target-requires c κs = c.before.before.before.before.before.before.requires.room
+append-target-requires : tie.Need-append_target-requires
+append-target-requires c κs = c.before.before.before.before.requires.room
 
 execute-requires : tie.Need-execute-requires
-execute-requires c κs = c.before.before.before.before.before.before.before.before.before.before.before.requires.word
+execute-requires c κs = c.before.before.before.before.before.before.before.before.before.requires.word
 
 returns : tie.Need-returns
 returns c =
     let e = c.before.before.before.before in
     let a = e.before.before.before.before.before in
-    let s = a.before.before.before.before.before.before.before in
+    let s = a.before.before.before.before.before in
     let lent = buffers_of (state s.args.z.now s.args.p.now) s.args.journal.now in
-    carried s.args.k s.args.kind s.args.f lent _ _ s.requires.writes e.execute.ensures a.append-target.ensures
+    carried s.args.k s.args.kind s.args.f lent _ _ s.requires.writes e.execute.ensures a.append_target.ensures
 
 pub carry_out_spec : {M : Type 1} → statement M
 carry_out_spec = tie.close (tie.spec append-target-requires execute-requires (λ c. search rules) (λ c. search rules) (λ c. search rules) returns)

@@ -10,43 +10,43 @@ use Rattle.totals.proofs.panel.Statement.{statement}
 use Rattle.totals.proofs.panel.Tie as tie
 
 -- where the function starts, and where the test is past
-abbrev start : tie.After-panel-refusal → tie.Start
+abbrev start : tie.After-panel_refusal → tie.Start
 start c = c.before.before.before
 
-abbrev passed : tie.After-width-of → tie.Else1
+abbrev passed : tie.After-width_of → tie.Else-panel_refusal-ne-DONE
 passed c = c.before.before.before
 
 -- past the test nothing is refused
-accepted : (c : tie.Else1)
+accepted : (c : tie.Else-panel_refusal-ne-DONE)
     → let a = (start c.before).args in
     Accepted a.k a.z.now a.p.now a.source a.governing a.size
-accepted c = panel_accepted _ _ _ _ _ _ (sym c.before.panel-refusal.ensures ∙ c.if1.false)
+accepted c = panel_accepted _ _ _ _ _ _ (sym c.before.panel_refusal.ensures ∙ c.if-panel_refusal-ne-DONE.false)
 
-returns : tie.Need-returns
+returns : tie.Need-returns-then-panel_refusal-ne-DONE
 unfolding no_panel
-returns c = kept _ _ _ _ c.before.panel-refusal.ensures c.if1.true
+returns c = kept _ _ _ _ c.before.panel_refusal.ensures c.if-panel_refusal-ne-DONE.true
 
-register-requires : tie.Need-register-requires
+register-requires : tie.Need-register-register-requires
 register-requires c κs = source_in _ _ _ _ _ _ (accepted c)
 
-register-requires-2 : tie.Need-register-requires-2
+register-requires-2 : tie.Need-register-predicate-requires
 register-requires-2 c κs = predicate_in _ _ _ _ _ _ (accepted c.before)
 
-width-of-requires : tie.Need-width-of-requires
+width-of-requires : tie.Need-width_of-requires
 width-of-requires c κs = (accepted c.before.before).size_is
 
-panel-of-requires : tie.Need-panel-of-requires
+panel-of-requires : tie.Need-panel_of-requires
 panel-of-requires c κs =
     let h = accepted (passed c) in
-    rw (c.width_of_lem.ensures, c.before.register2.ensures, c.before.before.register.ensures)
+    rw (c.width_of.ensures, c.before.register-predicate.ensures, c.before.before.register-register.ensures)
     (record { governs = governs _ _ _ _ _ _ h; fills = (width_legal _ h.size_is).2; segments = whole_segments _ _ _ _ _ _ h })
 
-returns-2 : tie.Need-returns-2
+returns-2 : tie.Need-returns
 returns-2 c =
     let t = passed c.before in
-    c.panel-of.ensures
-    ∙ rw (c.before.width_of_lem.ensures, c.before.before.register2.ensures, c.before.before.before.register.ensures)
-    (left _ _ _ (sym t.before.panel-refusal.ensures ∙ t.if1.left))
+    c.panel_of.ensures
+    ∙ rw (c.before.width_of.ensures, c.before.before.register-predicate.ensures, c.before.before.before.register-register.ensures)
+    (left _ _ _ (sym t.before.panel_refusal.ensures ∙ t.if-panel_refusal-ne-DONE.false))
 
 pub panel_spec : {M : Type 1} → statement M
 panel_spec = tie.close (tie.spec (λ c κs. search rules) returns register-requires register-requires-2 width-of-requires panel-of-requires returns-2)

@@ -21,70 +21,70 @@ use Rattle.totals.proofs.read_lane.Statement.{statement}
 use Rattle.totals.proofs.read_lane.Tie as tie
 
 -- the entry, from the test and past it
-abbrev start : tie.After-lane-refusal → tie.Start
+abbrev start : tie.After-lane_refusal-number → tie.Start
 start c = c.before.before.before
 
-abbrev passed : tie.After-width-of → tie.Else1
+abbrev passed : tie.After-width_of-w → tie.Else-number-ne-DONE
 passed c = c.before.before.before
 
 -- past the test nothing refuses, and the lane is there
-done : (c : tie.Else1) → let a = (start c.before).args in lane_refused a.k a.z.now a.p.now a.source a.predicate a.size a.e ≡ DONE
-done c = sym c.before.lane-refusal.ensures ∙ c.if1.false
+done : (c : tie.Else-number-ne-DONE) → let a = (start c.before).args in lane_refused a.k a.z.now a.p.now a.source a.predicate a.size a.e ≡ DONE
+done c = sym c.before.lane_refusal-number.ensures ∙ c.if-number-ne-DONE.false
 
-accepted : (c : tie.Else1)
+accepted : (c : tie.Else-number-ne-DONE)
     → let a = (start c.before).args in
     Accepted a.k a.z.now a.p.now a.source a.predicate a.size × (a.e < lanes_at a.k a.size)
 accepted c = lane_accepted _ _ _ _ _ _ _ (done c)
 
 -- the lane's bit, and that both fit
-bit_is : (c : tie.After-width-of) → let a = (start (passed c).before).args in a.e * c.width_of_lem.result ≡ a.e * width_of a.size
-bit_is c = ap (λ (w : ℕ). (start (passed c).before).args.e * w) c.width_of_lem.ensures
+bit_is : (c : tie.After-width_of-w) → let a = (start (passed c).before).args in a.e * c.width_of-w.result ≡ a.e * width_of a.size
+bit_is c = ap (λ (w : ℕ). (start (passed c).before).args.e * w) c.width_of-w.ensures
 
-bit_few : (c : tie.After-width-of) → let a = (start (passed c).before).args in a.e * c.width_of_lem.result < 512
+bit_few : (c : tie.After-width_of-w) → let a = (start (passed c).before).args in a.e * c.width_of-w.result < 512
 bit_few c =
     let h = accepted (passed c) in
     omega (arith, bit_is c, (lane_in _ _ _ _ _ _ _ h.0 h.1).inside, (whole_segments _ _ _ _ _ _ h.0).few)
 
-returns : tie.Need-returns
+returns : tie.Need-returns-then-number-ne-DONE
 returns c =
-    c.no-lane.ensures ∙ nothing_told no_lane _ _ _ c.before.before.lane-refusal.ensures c.before.if1.true
+    c.no_lane.ensures ∙ nothing_told no_lane _ _ _ c.before.before.lane_refusal-number.ensures c.before.if-number-ne-DONE.true
 
-mul-bit : tie.Need-overflow-mul-bit
+mul-bit : tie.Need-overflow_mul-bit
 mul-bit c = record { fits = omega (arith, bit_few c) }
 
-register-at-requires : tie.Need-register-at-requires
+register-at-requires : tie.Need-register_at-requires
 register-at-requires c κs = let h = (accepted (passed c)).0 in (legal_most _ h.lent.legal, h.source_is)
 
-add_start : tie.Need-overflow-add-start
+add_start : tie.Need-overflow_add-start
 add_start c =
     let a = (start (passed c.before).before).args in
     let source = source_in _ _ _ _ _ _ (accepted (passed c.before)).0 in
     let inside = register_inside a.k Vector a.source a.z.now source in
     let few = file_few a.k Vector source.legal in
-    record { fits = omega (arith, c.register-at.ensures, inside, source.sized, few, bit_few c.before) }
+    record { fits = omega (arith, c.register_at.ensures, inside, source.sized, few, bit_few c.before) }
 
-element-at-requires : tie.Need-element-at-requires
+element-at-requires : tie.Need-element_at-requires
 element-at-requires c κs =
     let w = c.before in
     let h = accepted (passed w) in
-    rw (w.width_of_lem.ensures, w.before.before.register.ensures) (lane_in _ _ _ _ _ _ _ h.0 h.1)
+    rw (w.width_of-w.ensures, w.before.before.register-register.ensures) (lane_in _ _ _ _ _ _ _ h.0 h.1)
 
-is-active-requires : tie.Need-is-active-requires
+is-active-requires : tie.Need-is_active-requires
 is-active-requires c κs =
     let w = c.before.before in
     let h = accepted (passed w) in
-    rw (w.width_of_lem.ensures, w.before.register2.ensures) (bit_in _ _ _ _ _ _ _ h.0 h.1)
+    rw (w.width_of-w.ensures, w.before.register-governing.ensures) (bit_in _ _ _ _ _ _ _ h.0 h.1)
 
-returns-2 : tie.Need-returns-2
+returns-2 : tie.Need-returns
 returns-2 c =
     let w = c.before.before.before in
     let t = passed w in
     let a = (start t.before).args in
-    lane_told_lem a.k a.z.now a.p.now a.source a.predicate a.size a.signed a.e t.before.lane-refusal.ensures (done t)
-    (c.before.element-at.ensures
-    ∙ ap₂ (λ (n : ℕ) (l : List ℕ). residue 64 (element a.signed n l a.e)) w.width_of_lem.ensures w.before.before.register.ensures)
-    (c.is-active.ensures ∙ ap₂ (λ (n : ℕ) (l : List ℕ). active n a.e l) w.width_of_lem.ensures w.before.register2.ensures)
-    (ap₂ (λ (x y : ℕ). x + y) c.before.before.register-at.ensures (bit_is w))
+    lane_told_lem a.k a.z.now a.p.now a.source a.predicate a.size a.signed a.e t.before.lane_refusal-number.ensures (done t)
+    (c.before.element_at.ensures
+    ∙ ap₂ (λ (n : ℕ) (l : List ℕ). residue 64 (element a.signed n l a.e)) w.width_of-w.ensures w.before.before.register-register.ensures)
+    (c.is_active.ensures ∙ ap₂ (λ (n : ℕ) (l : List ℕ). active n a.e l) w.width_of-w.ensures w.before.register-governing.ensures)
+    (ap₂ (λ (x y : ℕ). x + y) c.before.before.register_at.ensures (bit_is w))
     (bit_is w)
 
 pub read_lane_spec : {M : Type 1} → statement M

@@ -18,67 +18,67 @@ use Rattle.totals.proofs.subtotal_refusal.Statement.{statement}
 use Rattle.totals.proofs.subtotal_refusal.Tie as tie
 
 -- where the function starts, and where the first test is past
-abbrev start : tie.After-panel-refusal → tie.Start
+abbrev start : tie.After-panel_refusal-refused → tie.Start
 start c = c.before.before.before
 
-abbrev passed : tie.After-width-of → tie.Else1
+abbrev passed : tie.After-width_of → tie.Else-refused-ne-DONE
 passed c = c.before.before.before
 
 -- the refusal of the panel is the call's, and past it the range decides
-panel : (c : tie.After-panel-refusal) → let a = (start c).args in
-    Checked c.panel-refusal.result (subtotal_refused a.k a.z.now a.p.now a.source a.governing a.size a.a a.b)
+panel : (c : tie.After-panel_refusal-refused) → let a = (start c).args in
+    Checked c.panel_refusal-refused.result (subtotal_refused a.k a.z.now a.p.now a.source a.governing a.size a.a a.b)
     (refused (range_test (not (lane_range a.k a.size a.a a.b)) ∷ []))
 panel c =
     let a = (start c).args in
-    checked (panel_tests a.k a.z.now a.p.now a.source a.governing a.size) tt refl c.panel-refusal.ensures
+    checked (panel_tests a.k a.z.now a.p.now a.source a.governing a.size) tt refl c.panel_refusal-refused.ensures
 
 -- past the first test the length, the files and the numbers are right
-accepted : (c : tie.Else1)
+accepted : (c : tie.Else-refused-ne-DONE)
     → let a = (start c.before).args in
     Accepted a.k a.z.now a.p.now a.source a.governing a.size
-accepted c = panel_accepted _ _ _ _ _ _ (sym c.before.panel-refusal.ensures ∙ c.if1.false)
+accepted c = panel_accepted _ _ _ _ _ _ (sym c.before.panel_refusal-refused.ensures ∙ c.if-refused-ne-DONE.false)
 
 -- as many lanes as the register has
-lanes : (c : tie.After-width-of)
+lanes : (c : tie.After-width_of)
     → let a = (start (passed c).before).args in
-    c.before.vector-bytes.result / c.width_of_lem.result ≡ vector_bytes a.k / width_of a.size
-lanes c = ap₂ (λ (m n : ℕ). m / n) c.before.vector-bytes.ensures c.width_of_lem.ensures
+    c.before.vector_bytes.result / c.width_of.result ≡ vector_bytes a.k / width_of a.size
+lanes c = ap₂ (λ (m n : ℕ). m / n) c.before.vector_bytes.ensures c.width_of.ensures
 
-returns-2 : tie.Need-returns-2
-returns-2 c = sym ((panel c.before.before).passes c.before.if1.false ∙ rw (lt-leb _ _ c.if2.true))
+returns-2 : tie.Need-returns-then-b-a
+returns-2 c = sym ((panel c.before.before).passes c.before.if-refused-ne-DONE.false ∙ rw (lt-leb _ _ c.if-b-a.true))
 
-vector-bytes-requires : tie.Need-vector-bytes-requires
+vector-bytes-requires : tie.Need-vector_bytes-requires
 vector-bytes-requires c κs = legal_most _ (accepted c.before).lent.legal
 
-width-of-requires : tie.Need-width-of-requires
+width-of-requires : tie.Need-width_of-requires
 width-of-requires c κs = (accepted c.before.before).size_is
 
-div_if3 : tie.Need-nonzero-div-if3
-div_if3 c = rw c.width_of_lem.ensures (width_legal _ (accepted (passed c)).size_is).0
+div_lanes : tie.Need-nonzero_div-vector_bytes
+div_lanes c = rw c.width_of.ensures (width_legal _ (accepted (passed c)).size_is).0
 
-returns-3 : tie.Need-returns-3
+returns-3 : tie.Need-returns-then-vector_bytes-width_of
 returns-3 c =
     let p = passed c.before in
     sym
-    ((panel p.before).passes p.if1.left
-    ∙ rw (le-leb _ _ c.before.before.before.if2.false, lt-leb _ _ (rw (lanes c.before) at c.if3.true)))
+    ((panel p.before).passes p.if-refused-ne-DONE.false
+    ∙ rw (le-leb _ _ c.before.before.before.if-b-a.false, lt-leb _ _ (rw (lanes c.before) at c.if-vector_bytes-width_of.true)))
 
-returns-4 : tie.Need-returns-4
+returns-4 : tie.Need-returns
 returns-4 c =
     let p = passed c.before in
     sym
-    ((panel p.before).passes p.if1.left
-    ∙ rw (le-leb _ _ c.before.before.before.if2.false, le-leb _ _ (rw (lanes c.before) at c.if3.false)))
+    ((panel p.before).passes p.if-refused-ne-DONE.false
+    ∙ rw (le-leb _ _ c.before.before.before.if-b-a.false, le-leb _ _ (rw (lanes c.before) at c.if-vector_bytes-width_of.false)))
 
 pub subtotal_refusal_spec : {M : Type 1} → statement M
 subtotal_refusal_spec =
     tie.close
     (tie.spec
     (λ c κs. search rules)
-    (λ c. (panel c.before).refuses c.if1.true)
+    (λ c. (panel c.before).refuses c.if-refused-ne-DONE.true)
     returns-2
     vector-bytes-requires
     width-of-requires
-    div_if3
+    div_lanes
     returns-3
     returns-4)

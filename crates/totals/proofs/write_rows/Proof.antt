@@ -13,41 +13,41 @@ use Rattle.totals.proofs.Rows.{Laid, row_laid}
 use Rattle.totals.proofs.write_rows.Statement.{statement}
 use Rattle.totals.proofs.write_rows.Tie as tie
 
-abbrev invariant-loop : tie.invariant-loop
+abbrev invariant-loop : tie.invariant-loop-s
 invariant-loop out₀ rows s₀ out s = (s ≤ most_length) × (length out ≡ length out₀) × Laid rows out₀ s out
 
-abbrev decreases-loop : tie.decreases-loop
+abbrev decreases-loop : tie.decreases-loop-s
 decreases-loop out₀ rows s₀ out s = most_length - s
 
 -- the loop's turn, where its row is written next
-abbrev turn : tie.After-write-row-arg2 invariant-loop decreases-loop → tie.At-loop invariant-loop decreases-loop
+abbrev turn : tie.After-write_row-arg-in-loop-s-1 invariant-loop decreases-loop → tie.At-loop-s invariant-loop decreases-loop
 turn c = c.before.before.before
 
-loop-holds : tie.Need-loop-init invariant-loop decreases-loop
+loop-holds : tie.Need-loop-s-init invariant-loop decreases-loop
 loop-holds c = (omega arith, refl, record { same = refl; size = refl; front = refl })
 
-loop-again : tie.Need-loop-preserved invariant-loop decreases-loop
+loop-again : tie.Need-loop-s-preserved invariant-loop decreases-loop
 loop-again c =
     let t = turn c.before.before.before in
     let a = t.before.before in
-    let l = t.loop in
-    let w = c.before.before.write-row in (
+    let l = t.loop-s in
+    let w = c.before.before.write_row in (
       omega arith,
-      w.auto.0 ∙ l.inv.1,
-      row_laid a.args.t2 a.args.out.now l.out w.new.0 _ l.s (omega arith) l.inv.2 w.ensures.0 w.auto.0 w.ensures.1,
+      w.auto.out ∙ l.invariant.1,
+      row_laid a.args.rows a.args.out.now l.out w.new.out _ l.s (omega arith) l.invariant.2 w.ensures.0 w.auto.out w.ensures.1,
     )
 
 returns : tie.Need-returns invariant-loop decreases-loop
 returns c =
     let a = c.before.before.before in
-    let l = c.before.loop in
+    let l = c.before.loop-s in
     let end : l.s ≡ most_length = omega arith in
-    let all = take_all most_length a.args.t2 (omega arith) in
+    let all = take_all most_length a.args.rows (omega arith) in
     let size = (rw (end, all) at l.invariant.2.size) in
-    l.invariant.2.front ∙ rw (end, all) (ap (λ (n : ℕ). joined a.args.t2 ++ drop n a.args.out.now) (sym (zero-add _ ∙ size)))
+    l.invariant.2.front ∙ rw (end, all) (ap (λ (n : ℕ). joined a.args.rows ++ drop n a.args.out.now) (sym (zero-add _ ∙ size)))
 
 pub write_rows_spec : {M : Type 1} → statement M
 write_rows_spec =
     let written = tie.spec invariant-loop decreases-loop loop-holds (λ c. omega arith) (λ c. omega arith) (λ c. omega arith) (λ c κs. omega arith) in
     let next = written (λ c. omega arith) (λ c. omega arith) loop-again in
-    tie.close (next (λ c. c.before.loop.invariant.1) returns)
+    tie.close (next (λ c. c.before.loop-s.invariant.1) returns)

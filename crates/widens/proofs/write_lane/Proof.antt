@@ -37,32 +37,32 @@ put_lane at place e w n file back fits a is =
         ∙ append-nil (bytes_of w n))
 
 -- where the register starts, and the lane within the file
-abbrev start : tie.After-register-at → tie.Start
+abbrev start : tie.After-register_at → tie.Start
 start c = c.before.before
 
-within : (c : tie.After-register-at)
-    → c.register-at.result + (start c).args.e * (start c).args.w + (start c).args.w ≤ length (start c).args.z.now
+within : (c : tie.After-register_at)
+    → c.register_at.result + (start c).args.e * (start c).args.w + (start c).args.w ≤ length (start c).args.z.now
 within c =
     let s = start c in
-    omega (arith, c.register-at.ensures, s.pre.1, register_inside s.args.k Vector s.args.d s.args.z.now s.pre.0)
+    omega (arith, c.register_at.ensures, s.requires.1, register_inside s.args.k Vector s.args.d s.args.z.now s.requires.0)
 
-mul_at : tie.Need-overflow-mul-at
+mul_at : tie.Need-overflow_mul-at
 mul_at c = omega (arith, within c)
 
-add_at : tie.Need-overflow-add-at
+add_at : tie.Need-overflow_add-at
 add_at c = omega (arith, within c)
 
-add-end : tie.Need-overflow-add-end
+add-end : tie.Need-overflow_add-end
 add-end c = omega (arith, within c)
 
-part-put-number-end : tie.Need-slice-bounds-put-number-end
+part-put-number-end : tie.Need-slice_bounds-put_number-end
 part-put-number-end c = within c
 
 returns : tie.Need-returns
 returns c =
     let w = c.before.before in
     let r = w.before.before in
-    put_lane _ _ _ _ _ _ _ (within r) r.register-at.ensures w.put-number.ensures
+    put_lane _ _ _ _ _ _ _ (within r) r.register_at.ensures w.put_number.ensures
 
 pub write_lane_spec : {M : Type 1} → statement M
 write_lane_spec =
