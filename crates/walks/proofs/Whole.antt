@@ -1,6 +1,5 @@
 -- An output that has room for the longest: the whole output of the input is written at its front, so that a program with such room is never refused.
 -- Assumes nothing.
-use mathlib.Core.Path.{◌≡◌}
 use mathlib.Core.List.{List}
 use Prim.Native.Nat.{ℕ, ◌≤◌}
 use native.Mathlib.Omega.{arith}

@@ -1,9 +1,6 @@
 -- `carry_out` meets its contract: the entry that is appended is that of the register which the word writes, as it stood before the word.
 -- Assumes nothing.
-use borrow.Author.Rules.{rules}
-use Prim.Native.Nat.{ℕ}
-use mathlib.Core.Path.{◌≡◌, sym, ◌∙◌, ap, ap₂}
-use mathlib.Core.List.{List}
+use Rattle.std.proofs.Common.{ℕ, ◌≡◌, List, sym, ◌∙◌, ap, ap₂}
 use Rattle.registers.specs.declared.Kind.{Kind}
 use Rattle.registers.specs.Register.{Register}
 use Rattle.registers.specs.State.{State, state, contents}
@@ -15,8 +12,7 @@ use Rattle.entries.specs.Layout.{Entry, pushed}
 use Rattle.entries.specs.Restored.{register_entry, entry_of}
 use Rattle.journal.specs.Left.{Buffers, buffers_of}
 use Rattle.steps.specs.Calls.{carried_out}
-use Rattle.steps.proofs.carry_out.Statement.{statement}
-use Rattle.steps.proofs.carry_out.Tie as tie
+use Rattle.steps.proofs.carry_out.Goals as goal
 
 -- the entry of the register that a word writes, from the kind of that register
 entry_is : (k : ℕ) (kind : Kind) (f : Fields) (s : State) → kind ≡ kind_written (family_of f.row) → register_entry k kind f.d (contents kind s) ≡ entry_of k (target_of f) s
@@ -28,19 +24,7 @@ carried : (k : ℕ) (kind : Kind) (f : Fields) (b : Buffers) (files : State) (en
     → buffers_of files entries ≡ carried_out k f b
 carried k kind f b files entries writes is e = ap₂ buffers_of is (e ∙ ap (λ (entry : Entry). pushed k entry b.journal) (entry_is k kind f b.files writes))
 
-append-target-requires : tie.Need-append_target-requires
-append-target-requires c κs = c.before.before.before.before.requires.room
-
-execute-requires : tie.Need-execute-requires
-execute-requires c κs = c.before.before.before.before.before.before.before.before.before.requires.word
-
-returns : tie.Need-returns
+pub returns : goal.returns
 returns c =
-    let e = c.before.before.before.before in
-    let a = e.before.before.before.before.before in
-    let s = a.before.before.before.before.before in
-    let lent = buffers_of (state s.args.z.now s.args.p.now) s.args.journal.now in
-    carried s.args.k s.args.kind s.args.f lent _ _ s.requires.writes e.execute.ensures a.append_target.ensures
-
-pub carry_out_spec : {M : Type 1} → statement M
-carry_out_spec = tie.close (tie.spec append-target-requires execute-requires (λ c. search rules) (λ c. search rules) (λ c. search rules) returns)
+    let lent = buffers_of (state c.args.z.now c.args.p.now) c.args.journal.now in
+    carried c.args.k c.args.kind c.args.f lent _ _ c.requires.writes c.execute.ensures c.append_target.ensures
