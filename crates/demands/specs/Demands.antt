@@ -141,11 +141,11 @@ pub record ByManual (family : Family) (ps : Parameters) (w q k e : ℕ) (pg zn z
   pub segment : family ≡ Low Segment → sum ≡ total (each (λ (i : ℕ). active_element false w pg zn (i * per_segment w + e)) 0 (vector_bytes k / segment_bytes))
   -- SADDLV, UADDLV: all elements of the low 8 bytes of Zn, or with Q of the low 16
   pub long : family ≡ Low Long → sum ≡ total (each (element ps.signed w zn) 0 (data_bytes q / w))
-  -- SADALP, UADALP: the old element, and if it is active the pair of half_width elements of Zn that lie in it
+  -- SADALP, UADALP: the old element, and if it is active the pair of half-width elements of Zn that lie in it
   pub pairwise : family ≡ Wide Pairwise → sum
       ≡ element false w zd e
       +ℤ (counted (active w e pg) (element ps.signed (w / 2) zn (2 * e + 0)) +ℤ counted (active w e pg) (element ps.signed (w / 2) zn (2 * e + 1)))
-  -- long: half_width elements of Zn and Zm, the even ones for bottom and the odd ones for top; wide: the full element of Zn; added or subtracted
+  -- long: half-width elements of Zn and Zm, the even ones for bottom and the odd ones for top; wide: the full element of Zn; added or subtracted
   pub widening : family ≡ Wide Widening → sum
       ≡ element ps.signed (cond ps.wide w (w / 2)) zn (cond ps.wide e (selected ps.top e))
       +ℤ negated_where ps.subtract (element ps.signed (w / 2) zm (selected ps.top e))

@@ -86,7 +86,7 @@ data_bytes q = 8 * 2 ^ q
 abbrev pub long_terms : Bool → ℕ → ℕ → List Term
 long_terms signed w q = each (free_term signed w) 0 (data_bytes q / w)
 
--- SADALP, UADALP: the old element e, and, if e is active at the full width, both half_width elements that lie in it
+-- SADALP, UADALP: the old element e, and, if e is active at the full width, both half-width elements that lie in it
 abbrev pub pairwise_terms : Bool → ℕ → List ℕ → ℕ → List Term
 pairwise_terms signed w mask e =
     term true Old false w e
@@ -98,7 +98,7 @@ pairwise_terms signed w mask e =
 abbrev pub selected : Bool → ℕ → ℕ
 selected top e = 2 * e + cond top 1 0
 
--- the half_width element 2*e + sel of an operand
+-- the half-width element 2*e + sel of an operand
 abbrev pub half_term : Source → Parameters → ℕ → ℕ → Term
 half_term source ps w e = term true source ps.signed (w / 2) (selected ps.top e)
 

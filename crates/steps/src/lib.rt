@@ -38,6 +38,8 @@ fn carry_out(k: usize, kind: Kind, z: &mut [u8], p: &mut [u8], journal: &mut [u8
 }
 
 // Executes the word at the position and appends its entry; or JOURNAL where no entry may name what it writes, or FULL, and all as it stood.
+// Its frame stands apart from its caller's, so that decoding does not lie on top of it: a step takes less of the stack.
+#[inline(never)]
 fn perform(k: usize, z: &mut [u8], p: &mut [u8], journal: &mut [u8], f: Fields) -> u8
     requires { Ready k f (buffers_of (state z.old p.old) journal.old) }
     ensures { Performed k f (buffers_of (state z.old p.old) journal.old) result

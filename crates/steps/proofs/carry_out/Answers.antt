@@ -24,6 +24,9 @@ carried : (k : ℕ) (kind : Kind) (f : Fields) (b : Buffers) (files : State) (en
     → buffers_of files entries ≡ carried_out k f b
 carried k kind f b files entries writes is e = ap₂ buffers_of is (e ∙ ap (λ (entry : Entry). pushed k entry b.journal) (entry_is k kind f b.files writes))
 
+pub append_target-requires : goal.append_target-requires
+append_target-requires c = c.requires.room
+
 pub returns : goal.returns
 returns c =
     let lent = buffers_of (state c.args.z.now c.args.p.now) c.args.journal.now in
