@@ -1,9 +1,9 @@
 // Reads a session from standard input and writes its walk to standard output: a line for each step until one is refused.
 #![tactic(auto)]
 
-ghost use Rattle.std.specs.Prelude.{◌≤◌, ◌<◌, length, take, IfOk, OnOk, IfSome};
+ghost use Rattle.std.specs.Prelude.{◌≤◌, ◌<◌, length, take, IfOk, OnOk, OnErr, IfSome};
 ghost use Rattle.std.specs.Io.KnownBytes.{Consumes, Appends, IsAtEnd};
-ghost use Rattle.walk.specs.Counts.{IsPrefixLen};
+ghost use Rattle.walk.specs.Counts.{IsPrefixLen, TakenInFront};
 ghost use Rattle.digits.specs.Put.{Put};
 ghost use Rattle.session.specs.Layout.{most_session};
 ghost use Rattle.walks.specs.Output.{output_of, most_output};
@@ -17,6 +17,7 @@ fn read_input<R: Read>(reader: &mut R, input: &mut [u8]) -> io::Result<usize>
     ensures prefix_len { IfOk result (λ count. IsPrefixLen count input.new) }
     ensures bytes { IfOk result (λ count. Consumes (R.remaining reader.old) (R.remaining reader.new) (take count input.new)) }
     ensures whole { IfOk result (λ count. count < length input.new → IsAtEnd (R.remaining reader.new)) }
+    ensures err { OnErr result (TakenInFront (R.remaining reader.old) (R.remaining reader.new) input.new) }
 {
     let mut count = 0;
     while count < input.len() {
