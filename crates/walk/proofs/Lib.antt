@@ -1,1 +1,2 @@
 pub mod Walked
+mod Literals

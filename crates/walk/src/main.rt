@@ -11,6 +11,8 @@ ghost use Rattle.walks.specs.Output.{output_of, most_output};
 use std::io;
 use std::io::{Read, Write};
 
+mod held;
+
 // Reads the input into room that the longest session does not fill, so that a longer input is seen and refused.
 fn read_input<R: Read>(reader: &mut R, input: &mut [u8]) -> io::Result<usize>
     requires { most_session < length input.old }
