@@ -2,18 +2,21 @@
 -- allows one result.
 -- Assumes nothing.
 use Prim.Native.Nat.{ℕ, suc, ◌<◌}
-use mathlib.Core.Path.{◌≡◌, refl, ap}
+use mathlib.Core.Path.{◌≡◌, refl, sym, ◌∙◌, ap}
 use mathlib.Core.Bool.{true}
 use mathlib.Core.Logic.{◌↔◌}
 use lib.Dec.{ltb}
 use borrow.Author.Tests.{lt-leb}
 use Rattle.machine.specs.Refusal.{First, in_order}
-use Rattle.machine.proofs.Tests.{first_exactly, one_result}
+use Rattle.std.specs.Prelude.{Result}
+use Rattle.machine.specs.declared.refusal.Refusal.{Refusal}
+use Rattle.machine.proofs.Codes.{told_tells}
+use Rattle.machine.proofs.Tests.{first_exactly}
 use Rattle.rows.specs.Table.{rows, form_of, family_of}
 use Rattle.words.specs.Field.{source_digits, governing_digits, second_digits, pattern_digits}
 use Rattle.cores.specs.Need.{need_of}
-use Rattle.about.specs.declared.About.{About}
-use Rattle.about.specs.About.{need_byte, reads_destination, writes_predicate, row_tests, row_refused, row_told, about_answer}
+use Rattle.about.specs.declared.FoundRow.{FoundRow}
+use Rattle.about.specs.About.{need_byte, reads_destination, writes_predicate, row_tests, row_refused, row_told, About, about_in, about_answer}
 
 pub row_in_order : (row : ℕ) → in_order (row_tests row) ≡ true
 row_in_order row = refl
@@ -59,5 +62,23 @@ module _ (row : ℕ) (there : row < rows) where
   writes_told = ap (λ (a : About). a.writes_predicate) row_is_told
 
 -- two results of the call are the same
-pub row_determined : (row : ℕ) (r s : About) → r ≡ about_answer row → s ≡ about_answer row → r ≡ s
-row_determined row = one_result (about_answer row)
+pub row_determined : (row : ℕ) (a b : Result FoundRow Refusal) → about_in a ≡ about_answer row → about_in b ≡ about_answer row → a ≡ b
+row_determined row a b s t = told_tells about_in (λ o. o.number) found (λ x. refl) (λ r. refl) (λ x. refl) a b (s ∙ sym t)
+  where
+    -- what is told without the number
+    found : About → FoundRow
+    found o =
+        record {
+          signed = o.signed;
+          has_g = o.has_g;
+          has_m = o.has_m;
+          has_q = o.has_q;
+          reads_destination = o.reads_destination;
+          need = o.need;
+          n_bytes = o.n_bytes;
+          m_bytes = o.m_bytes;
+          d_bytes = o.d_bytes;
+          has_n = o.has_n;
+          has_pattern = o.has_pattern;
+          writes_predicate = o.writes_predicate;
+        }

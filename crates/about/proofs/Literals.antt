@@ -9,7 +9,7 @@ use mathlib.Core.List.{List, [], ◌∷◌, ◌++◌}
 use Rattle.lanes.specs.Sum.{each}
 use Rattle.rows.specs.Table.{row_at}
 use Rattle.cores.specs.Need.{need_of}
-use Rattle.about.specs.declared.About.{About}
+use Rattle.about.specs.About.{About}
 use Rattle.about.specs.About.{row_told, about_answer, no_about}
 
 -- a row that is told: signed, g, m, q, reads its destination, its need, the bytes of n, of m and of d at sizes 0 to 3, n, a pattern, writes a predicate

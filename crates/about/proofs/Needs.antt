@@ -16,7 +16,7 @@ use Rattle.rows.proofs.Every.{every, at_each}
 use Rattle.rows.proofs.OneRow.{row_found}
 use Rattle.words.specs.Decode.{decoded, number_of, RowWith}
 use Rattle.words.specs.declared.Fields.{Fields}
-use Rattle.words.specs.declared.Decoded.TheVariants.{Word}
+use Rattle.words.specs.Decode.{Word}
 use Rattle.words.proofs.Decoding.{accepted}
 use Rattle.words.proofs.Answers.{done_exactly}
 use Rattle.cores.specs.Need.{either, has, need_of}

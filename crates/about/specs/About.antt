@@ -1,7 +1,8 @@
 -- What the call for a row answers, for every number: the sign of its elements, which fields its words have, whether they read their destination, what
 -- they need of a core, the bytes of their lanes, and whether they write a predicate.
-use Rattle.std.specs.Prelude.{ℕ, ◌+◌, ◌^◌, ◌<◌, ◌≡◌, ◌⊎◌, Bool, true, false, List, [], ◌∷◌, leb, ltb}
-use Rattle.machine.specs.Refusal.{DONE, Test, range_test, refused, unless_refused}
+use Rattle.std.specs.Prelude.{Result, Ok, Err, ℕ, ◌+◌, ◌^◌, ◌<◌, ◌≡◌, ◌⊎◌, Bool, true, false, List, [], ◌∷◌, leb, ltb}
+use Rattle.machine.specs.declared.refusal.Refusal.{Refusal}
+use Rattle.machine.specs.Refusal.{DONE, code, Test, range_test, refused, unless_refused}
 use Rattle.facts.specs.Facts.{sve_bit, sve2_bit, sve2p1_bit, sme_bit, sme2p1_bit, has_bit}
 use Rattle.rows.specs.Table.{rows, form_of, family_of}
 use Rattle.rows.specs.declared.Family.{Family}
@@ -12,7 +13,7 @@ use Rattle.cores.specs.Need.{need_of}
 use Rattle.cores.specs.declared.Need.{Need}
 use Rattle.cores.specs.declared.Need.TheVariants.{Nothing, SveOrSme, Sve2OrSme, Sve2p1OrSme2p1}
 use Rattle.about.specs.Widths.{bytes_by_size}
-use Rattle.about.specs.declared.About.{About}
+use Rattle.about.specs.declared.FoundRow.{FoundRow}
 use Rattle.about.specs.declared.Operand.TheVariants.{First, Second, Destination}
 
 -- the bits of the facts of which one is enough; 0 where nothing is needed
@@ -41,6 +42,23 @@ row_tests row = range_test (leb rows row) ∷ []
 
 abbrev pub row_refused : ℕ → ℕ
 row_refused row = refused (row_tests row)
+
+-- what is told of a row: the number, the sign of its elements, whether it has g, m and Q, whether it reads its destination, its need, the bytes of the
+-- lanes of n, of m and of d at each size, whether it has n and a pattern, and whether it writes a predicate
+pub record About : Type 0 where
+  pub number : ℕ
+  pub signed : Bool
+  pub has_g : Bool
+  pub has_m : Bool
+  pub has_q : Bool
+  pub reads_destination : Bool
+  pub need : ℕ
+  pub n_bytes : List ℕ
+  pub m_bytes : List ℕ
+  pub d_bytes : List ℕ
+  pub has_n : Bool
+  pub has_pattern : Bool
+  pub writes_predicate : Bool
 
 -- a row
 unfoldable pub row_told : ℕ → About
@@ -82,6 +100,26 @@ no_about n =
       has_pattern = false;
       writes_predicate = false;
     }
+
+-- what is told, of an outcome
+abbrev pub about_in : Result FoundRow Refusal → About
+about_in (Ok f) =
+    record {
+      number = DONE;
+      signed = f.signed;
+      has_g = f.has_g;
+      has_m = f.has_m;
+      has_q = f.has_q;
+      reads_destination = f.reads_destination;
+      need = f.need;
+      n_bytes = f.n_bytes;
+      m_bytes = f.m_bytes;
+      d_bytes = f.d_bytes;
+      has_n = f.has_n;
+      has_pattern = f.has_pattern;
+      writes_predicate = f.writes_predicate;
+    }
+about_in (Err r) = no_about (code r)
 
 -- the row, or its refusal with nothing
 abbrev pub about_answer : ℕ → About

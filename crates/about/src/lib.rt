@@ -5,17 +5,16 @@
 ghost use Rattle.std.specs.Prelude.{◌≡◌, ◌≤◌, ◌<◌};
 ghost use Rattle.machine.specs.Size.{sizes};
 ghost use Rattle.about.specs.Widths.{low_bytes, wide_bytes, made_lane_bytes, family_bytes, allows_some, bytes_at, bytes_by_size};
-ghost use Rattle.about.specs.About.{need_byte, reads_destination, writes_predicate, no_about, about_answer};
+ghost use Rattle.about.specs.About.{need_byte, reads_destination, writes_predicate, about_in, about_answer};
 
 use cores::Need;
 use facts::bit;
-use machine::refusal;
+use machine::Refusal;
 use rows::{Family, Form, LowFamily, ROWS, WideFamily};
 
-// What is told of a row; with a refusal nothing.
+// What is told of a row.
 #[derive(Clone, Copy)]
-pub struct About {
-    pub number: u8,
+pub struct FoundRow {
     pub signed: bool,
     pub has_g: bool,
     pub has_m: bool,
@@ -54,25 +53,14 @@ fn need_byte(need: Need) -> u8
 fn reads_destination(family: Family) -> bool
     ensures { result ≡ reads_destination family }
 {
-    match family {
-        Family::Low(_) => false,
-        Family::Wide(wide) => match wide {
-            WideFamily::Pairwise => true,
-            WideFamily::Widening => false,
-        },
-        Family::Made(_) => false,
-    }
+    matches!(family, Family::Wide(WideFamily::Pairwise))
 }
 
 // Whether a family's words write a predicate.
 fn writes_predicate(family: Family) -> bool
     ensures { result ≡ writes_predicate family }
 {
-    match family {
-        Family::Low(_) => false,
-        Family::Wide(_) => false,
-        Family::Made(_) => true,
-    }
+    matches!(family, Family::Made(_))
 }
 
 // The bytes of an operand's lanes, of the families that write the low bytes, with elements of w bytes.
@@ -114,8 +102,7 @@ fn made_lane_bytes(operand: Operand, w: usize) -> usize
     ensures { result ≡ made_lane_bytes operand w }
 {
     match operand {
-        Operand::First => 0,
-        Operand::Second => 0,
+        Operand::First | Operand::Second => 0,
         Operand::Destination => w,
     }
 }
@@ -146,8 +133,8 @@ fn bytes_at(form: Form, operand: Operand, size: usize) -> u64
     ensures { result ≡ bytes_at form operand size }
 {
     if allows_some(form, size) {
-        let family = form.family;
-        family_bytes(family, form.parameters.wide, operand, lanes::width_of(size)) as u64
+        let w = lanes::width_of(size);
+        family_bytes(form.family, form.parameters.wide, operand, w) as u64
     } else {
         0
     }
@@ -157,46 +144,19 @@ fn bytes_at(form: Form, operand: Operand, size: usize) -> u64
 fn bytes_by_size(form: Form, operand: Operand) -> [u64; 4]
     ensures { result ≡ bytes_by_size form operand }
 {
-    [
-        bytes_at(form, operand, 0),
-        bytes_at(form, operand, 1),
-        bytes_at(form, operand, 2),
-        bytes_at(form, operand, 3),
-    ]
-}
-
-// A refusal with nothing told of a row.
-fn no_about(number: u8) -> About
-    ensures { result ≡ no_about number }
-{
-    About {
-        number,
-        signed: false,
-        has_g: false,
-        has_m: false,
-        has_q: false,
-        reads_destination: false,
-        need: 0,
-        n_bytes: [0; 4],
-        m_bytes: [0; 4],
-        d_bytes: [0; 4],
-        has_n: false,
-        has_pattern: false,
-        writes_predicate: false,
-    }
+    std::array::from_fn(|size| bytes_at(form, operand, size))
 }
 
 // What is told of the row at a place, or RANGE.
-pub fn read_row(row: usize) -> About
-    ensures { result ≡ about_answer row }
+pub fn read_row(row: usize) -> Result<FoundRow, Refusal>
+    ensures { about_in result ≡ about_answer row }
 {
     if ROWS <= row {
-        return no_about(refusal::RANGE);
+        return Err(Refusal::Range);
     }
     let form = rows::form_of(row);
     let family = form.family;
-    About {
-        number: refusal::DONE,
+    Ok(FoundRow {
         signed: form.parameters.signed,
         has_g: 0 < words::governing_digits(family),
         has_m: 0 < words::second_digits(family),
@@ -209,5 +169,5 @@ pub fn read_row(row: usize) -> About
         has_n: 0 < words::source_digits(family),
         has_pattern: 0 < words::pattern_digits(family),
         writes_predicate: writes_predicate(family),
-    }
+    })
 }

@@ -3,13 +3,13 @@
 
 ghost use Rattle.std.specs.Prelude.{◌≡◌, ◌+◌, ◌≤◌, length, get_or, replicate};
 ghost use Rattle.parts.specs.Part.{part, with_part};
-ghost use Rattle.machine.specs.Size.{most_length};
 ghost use Rattle.registers.specs.Register.{numbered, register_bytes, with_register, padded};
 ghost use Rattle.registers.specs.State.{state};
 ghost use Rattle.entries.specs.Layout.{count_at, count_bytes, layout_of, with_count, fresh_journal, entry_bytes, encoded_entry, entry_from, pushed};
 ghost use Rattle.entries.specs.Restored.{padded_entry, register_entry, restored};
 ghost use Rattle.appends.specs.Needs.{PutEntry, Append, Restorable, PutBack, TakeBack, TakenBack};
 
+use machine::Length;
 use registers::Kind;
 
 // Writes the count.
@@ -20,47 +20,31 @@ fn put_count(journal: &mut [u8], n: usize)
     parts::put_number(journal, entries::COUNT_AT, entries::COUNT, n as u64);
 }
 
-// Sets a journal's bytes to zeros, those after its header too.
-fn clear(journal: &mut [u8])
-    requires { count_at + count_bytes ≤ length journal.old }
-    ensures { journal.new ≡ replicate (length journal.old) 0 }
+// Writes a fresh journal's bytes, of a version.
+pub fn put_fresh(k: Length, version: usize, journal: &mut [u8])
+    requires { (layout_of version).header ≤ length journal.old }
+    ensures { journal.new ≡ fresh_journal version k.units (length journal.old) }
 {
     parts::clear(journal);
-}
-
-// Writes a fresh journal's bytes, of a version.
-pub fn put_fresh(k: usize, version: usize, journal: &mut [u8])
-    requires { (k ≤ most_length) × ((layout_of version).header ≤ length journal.old) }
-    ensures { journal.new ≡ fresh_journal version k (length journal.old) }
-{
-    clear(journal);
     let heading = entries::heading(version, k);
     parts::overwrite(journal, 0, &heading);
 }
 
-// Writes a register's old bytes into the bytes of an entry, and zeros after those of a predicate.
-fn put_old(room: &mut [u8], old: &[u8])
-    requires { length old.now ≤ length room.old }
-    ensures { room.new ≡ padded (length room.old) old.now }
-{
-    registers::write(room, old);
-}
-
 // Writes an entry at a place: its number, then a register's old bytes, and zeros after those of a predicate.
-fn put_entry(k: usize, journal: &mut [u8], at: usize, number: usize, old: &[u8])
-    requires { PutEntry k at number old.now journal.old }
-    ensures { journal.new ≡ with_part at (entry_bytes k) (encoded_entry (padded_entry k number old.now)) journal.old }
+fn put_entry(k: Length, journal: &mut [u8], at: usize, number: usize, old: &[u8])
+    requires { PutEntry k.units at number old.now journal.old }
+    ensures { journal.new ≡ with_part at (entry_bytes k.units) (encoded_entry (padded_entry k.units number old.now)) journal.old }
 {
     journal[at] = number as u8;
     let start = at + 1;
     let end = at + entries::entry_bytes(k);
-    put_old(&mut journal[start..end], old);
+    registers::write(&mut journal[start..end], old);
 }
 
 // Appends the entry of register r of a kind, whose file is lent, and raises the count.
-pub fn append(k: usize, kind: Kind, file: &[u8], journal: &mut [u8], r: usize)
-    requires { Append k kind r file.now journal.old }
-    ensures { journal.new ≡ pushed k (register_entry k kind r file.now) journal.old }
+pub fn append(k: Length, kind: Kind, file: &[u8], journal: &mut [u8], r: usize)
+    requires { Append k.units kind r file.now journal.old }
+    ensures { journal.new ≡ pushed k.units (register_entry k.units kind r file.now) journal.old }
 {
     let i = entries::held_of(journal);
     let at = entries::entry_at(k, journal, i);
@@ -76,10 +60,10 @@ pub fn append(k: usize, kind: Kind, file: &[u8], journal: &mut [u8], r: usize)
 }
 
 // Writes the old bytes of the entry at a place into the register of a kind that it names, whose file is lent.
-fn restore(k: usize, kind: Kind, file: &mut [u8], journal: &[u8], at: usize)
-    requires { Restorable k kind at file.old journal.now }
-    ensures { file.new ≡ with_register k kind (numbered (get_or journal.now at 0)).number
-        (part (at + 1) (register_bytes k kind) journal.now) file.old }
+fn restore(k: Length, kind: Kind, file: &mut [u8], journal: &[u8], at: usize)
+    requires { Restorable k.units kind at file.old journal.now }
+    ensures { file.new ≡ with_register k.units kind (numbered (get_or journal.now at 0)).number
+        (part (at + 1) (register_bytes k.units kind) journal.now) file.old }
 {
     let r = registers::register_numbered(journal[at] as usize);
     let start = at + 1;
@@ -88,9 +72,9 @@ fn restore(k: usize, kind: Kind, file: &mut [u8], journal: &[u8], at: usize)
 }
 
 // Writes the old bytes of the entry at a place into the register that it names, in the file of its kind.
-fn put_back(k: usize, z: &mut [u8], p: &mut [u8], journal: &[u8], at: usize)
-    requires { PutBack k at (state z.old p.old) journal.now }
-    ensures { state z.new p.new ≡ restored k (entry_from k at journal.now) (state z.old p.old) }
+fn put_back(k: Length, z: &mut [u8], p: &mut [u8], journal: &[u8], at: usize)
+    requires { PutBack k.units at (state z.old p.old) journal.now }
+    ensures { state z.new p.new ≡ restored k.units (entry_from k.units at journal.now) (state z.old p.old) }
 {
     let kind = registers::kind_numbered(journal[at] as usize);
     match kind {
@@ -100,9 +84,9 @@ fn put_back(k: usize, z: &mut [u8], p: &mut [u8], journal: &[u8], at: usize)
 }
 
 // Takes the last entry off: its bytes go back into the register that it names, the entry is set to zeros and the count lowered.
-pub fn take_back(k: usize, z: &mut [u8], p: &mut [u8], journal: &mut [u8])
-    requires { TakeBack k (state z.old p.old) journal.old }
-    ensures { TakenBack k (state z.old p.old) journal.old
+pub fn take_back(k: Length, z: &mut [u8], p: &mut [u8], journal: &mut [u8])
+    requires { TakeBack k.units (state z.old p.old) journal.old }
+    ensures { TakenBack k.units (state z.old p.old) journal.old
         (state z.new p.new) journal.new }
 {
     let i = entries::held_of(journal) - 1;

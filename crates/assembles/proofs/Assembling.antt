@@ -9,12 +9,12 @@ use native.Mathlib.Omega.{arith}
 use lib.ListN.{length, take}
 use lib.Pow.{pow_pos}
 use Rattle.machine.specs.Refusal.{DONE, TEXT}
-use Rattle.machine.specs.declared.Answer.{Answer}
+use Rattle.machine.specs.Refusal.{Answer}
 use Rattle.rows.specs.Digits.{word_digits}
 use Rattle.words.specs.Decode.{decoded, number_of}
 use Rattle.words.specs.Encode.{encoded, InRange}
 use Rattle.words.specs.declared.Fields.{Fields}
-use Rattle.words.specs.declared.Decoded.TheVariants.{Word}
+use Rattle.words.specs.Decode.{Word}
 use Rattle.rows.specs.Table.{family_of}
 use Rattle.words.proofs.Decoding.{governing_below, second_below, q_below, size_in_lem, source_in, destination_in, pattern_in_lem}
 use Rattle.words.proofs.Encoding.{decoded_in_range, encoded_decoded}

@@ -11,7 +11,7 @@ use Rattle.parts.specs.Part.{same_bytes}
 use Rattle.parts.specs.Text.{bytes}
 use Rattle.parts.proofs.Same.{same_refl}
 use Rattle.machine.specs.Refusal.{TEXT}
-use Rattle.machine.specs.declared.Answer.{Answer}
+use Rattle.machine.specs.Refusal.{Answer}
 use Rattle.facts.specs.declared.Facts.{Facts}
 use Rattle.rows.specs.Digits.{digits_and}
 use Rattle.rows.specs.Table.{row_at, row_of, matches, place_from}

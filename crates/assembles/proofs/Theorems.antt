@@ -1,6 +1,7 @@
 -- Naming is injective on accepted words; and on any core every form in range whose need it has is an accepted word's text, a word's text assembles
 -- to the word, an accepted text is named as it stood, and the contract of `assemble` allows one result.
 -- Assumes nothing.
+use Rattle.std.specs.Prelude.{Result}
 use mathlib.Core.Path.{◌≡◌, sym, ◌∙◌, ap}
 use mathlib.Core.Logic.{⊎_elim, ◌↔◌}
 use mathlib.Core.Bool.{true}
@@ -8,7 +9,9 @@ use mathlib.Core.List.{List}
 use Prim.Native.Nat.{ℕ, ◌≤◌, ◌<◌, ◌^◌}
 use lib.ListN.{length, take}
 use Rattle.machine.specs.Refusal.{DONE, TEXT}
-use Rattle.machine.specs.declared.Answer.{Answer}
+use Rattle.machine.specs.Refusal.{Answer, answer_of}
+use Rattle.machine.specs.declared.refusal.Refusal.{Refusal}
+use Rattle.machine.proofs.Codes.{answer_tells}
 use Rattle.rows.specs.Digits.{word_digits}
 use Rattle.words.specs.Decode.{decoded, number_of}
 use Rattle.words.specs.Encode.{encoded, InRange}
@@ -76,9 +79,9 @@ module _ (facts : Facts) where
     λ none. ⊎_elim (λ (done : r.number ≡ DONE). absurd (none r.value (a.done done))) (λ e. e) a.number,
   )
 
-  -- two results that the contract of `assemble` allows are the same
-  pub assemble_determined : (text : List ℕ) (r s : Answer) → Assembled text facts r → Assembled text facts s → r ≡ s
-  assemble_determined text r s a b = ⊎_elim done none b.number
+  -- two answers of assembling a text are the same, and so two results that the contract of `assemble` allows
+  pub assembled_determined : (text : List ℕ) (r s : Answer) → Assembled text facts r → Assembled text facts s → r ≡ s
+  assembled_determined text r s a b = ⊎_elim done none b.number
     where
       done : s.number ≡ DONE → r ≡ s
       done e =
@@ -91,6 +94,9 @@ module _ (facts : Facts) where
           (λ (d : r.number ≡ DONE). absurd ((b.refused e).1 r.value (a.done d)))
           (λ (n : r.number ≡ TEXT). λ t. record { number = (n ∙ sym e) t; value = ((a.refused n).0 ∙ sym (b.refused e).0) t })
           a.number
+
+  pub assemble_determined : (text : List ℕ) (r s : Result ℕ Refusal) → Assembled text facts (answer_of r) → Assembled text facts (answer_of s) → r ≡ s
+  assemble_determined text r s a b = answer_tells r s (assembled_determined text (answer_of r) (answer_of s) a b)
 
   -- a word that is named, and its text assembled, comes back
   pub text_then_word : (word : ℕ) (old new : List ℕ) (r s : Answer) → word < 2 ^ word_digits → Named word facts old new r → r.number ≡ DONE

@@ -1,7 +1,7 @@
 -- What assembling a text on a core answers: the word that the core accepts and that reads so, or TEXT where there is none.
 use Rattle.std.specs.Prelude.{◌≡◌, ◌⊎◌, List, ℕ, ◌<◌, ◌^◌}
 use Rattle.machine.specs.Refusal.{DONE, TEXT}
-use Rattle.machine.specs.declared.Answer.{Answer}
+use Rattle.machine.specs.Refusal.{Answer}
 use Rattle.rows.specs.Digits.{word_digits}
 use Rattle.facts.specs.declared.Facts.{Facts}
 use Rattle.words.specs.Decode.{number_of}

@@ -2,16 +2,19 @@
 #![tactic(auto)]
 
 ghost use Rattle.std.specs.Prelude.{◌≡◌, ◌+◌, ◌*◌, ◌-◌, ◌%◌, ◌≤◌, ◌^◌, length, drop};
+ghost use Rattle.machine.specs.Refusal.{answer_of};
 ghost use Rattle.machine.specs.Size.{sizes};
 ghost use Rattle.words.specs.Field.{register_digits, q_place};
+ghost use Rattle.names.specs.Text.{row_named};
 ghost use Rattle.patterns.specs.Text.{pattern_named};
 ghost use Rattle.scans.specs.Scanned.{size_in};
 ghost use Rattle.assembles.specs.Reading.{fields, by_family, with_pattern, fields_from, word_of};
 ghost use Rattle.assembles.specs.Assembled.{Assembled};
 
 use facts::Facts;
-use machine::{Answer, refusal};
-use rows::{Family, LowFamily, WideFamily};
+use machine::{Length, Refusal};
+use patterns::PATTERNS;
+use rows::{Family, LowFamily, ROWS, WideFamily};
 use words::{Fields, NAMING_DIGITS, PREDICATE_DIGITS, REGISTER_DIGITS, SIZE_DIGITS, place};
 
 // Fields in the order of the operands, of a word without a pattern.
@@ -44,17 +47,26 @@ fn by_family(
     ensures { result ≡ by_family row family size a b c q }
 {
     match family {
-        Family::Low(low) => match low {
-            LowFamily::Reduction => fields(row, size, a, b, c, 0, 0),
-            LowFamily::Segment => fields(row, size, a, b, c, 0, 0),
-            LowFamily::Long => fields(row, size, a, 0, b, 0, q),
-        },
-        Family::Wide(wide) => match wide {
-            WideFamily::Pairwise => fields(row, size + 1, a, b, c, 0, 0),
-            WideFamily::Widening => fields(row, size + 1, a, 0, b, c, 0),
-        },
+        Family::Low(LowFamily::Long) => fields(row, size, a, 0, b, 0, q),
+        Family::Low(_) => fields(row, size, a, b, c, 0, 0),
+        Family::Wide(WideFamily::Pairwise) => fields(row, size + 1, a, b, c, 0, 0),
+        Family::Wide(WideFamily::Widening) => fields(row, size + 1, a, 0, b, c, 0),
         Family::Made(_) => fields(row, 0, a, 0, 0, 0, 0),
     }
+}
+
+// The size that the letter k places before a text's end tells, or the number of sizes, which is none's.
+fn size_in(text: &[u8], k: usize) -> usize
+    ensures { result ≡ size_in text.now k }
+{
+    scans::size_in(text, k).unwrap_or(Length::SIZES)
+}
+
+// The pattern whose text some bytes are, or the number of patterns, which is none's.
+fn pattern_in(text: &[u8]) -> usize
+    ensures { result ≡ pattern_named text.now }
+{
+    patterns::pattern_named(text).unwrap_or(PATTERNS)
 }
 
 // The fields with the pattern that stands at a place in the text and the size of the letter before its comma, where the pattern has digits.
@@ -65,25 +77,25 @@ fn with_pattern(f: Fields, digits: u32, text: &[u8], at: usize) -> Fields
     if digits == 0 {
         return f;
     }
-    let size = scans::size_in(text, text.len() - at + 3);
-    let pattern = patterns::pattern_named(&text[at..]);
     Fields {
-        row: f.row,
-        size,
-        n: f.n,
-        d: f.d,
-        g: f.g,
-        m: f.m,
-        q: f.q,
-        pattern,
+        size: size_in(text, text.len() - at + 3),
+        pattern: pattern_in(&text[at..]),
+        ..f
     }
+}
+
+// The row that a text names, or the number of rows, which is none's.
+fn row_in(text: &[u8]) -> usize
+    ensures { result ≡ row_named text.now }
+{
+    names::row_named(text).unwrap_or(ROWS)
 }
 
 // The fields that a text has, if it is the text of an accepted word.
 fn read_fields(text: &[u8]) -> Fields
     ensures { result ≡ fields_from text.now }
 {
-    let row = names::row_named(text);
+    let row = row_in(text);
     let family = rows::family_of(row);
     let first = scans::past_space(text, 0);
     let second = scans::past_space(text, first);
@@ -91,7 +103,7 @@ fn read_fields(text: &[u8]) -> Fields
     let a = scans::number_at(text, first);
     let b = scans::number_at(text, second);
     let c = scans::number_at(text, third);
-    let size = scans::size_in(text, 1);
+    let size = size_in(text, 1);
     let q = scans::q_in(size, text);
     let f = by_family(row, family, size, a, b, c, q);
     with_pattern(f, words::pattern_digits(family), text, second)
@@ -110,7 +122,7 @@ fn encode(f: Fields) -> u32
     ensures { result ≡ word_of f }
 {
     let entry = rows::row_at(f.row);
-    let value = entry.2 as u64;
+    let value = u64::from(entry.2);
     let n = placed(f.n, REGISTER_DIGITS, place::SOURCE);
     let m = placed(f.m, REGISTER_DIGITS, place::SECOND);
     let size = placed(f.size, SIZE_DIGITS, place::SIZE);
@@ -123,24 +135,13 @@ fn encode(f: Fields) -> u32
 }
 
 // The word that the core accepts and that reads as this text, or TEXT. The word that is read is named, and its text must be this one.
-pub fn assemble(text: &[u8], facts: Facts) -> Answer
-    ensures { Assembled text.now facts result }
+pub fn assemble(text: &[u8], facts: Facts) -> Result<u32, Refusal>
+    ensures { Assembled text.now facts (answer_of result) }
 {
     let word = encode(read_fields(text));
-    let value = word as u64;
     let mut line = [0u8; names::LEAST_OUT];
-    let named = names::text(word, facts, &mut line);
-    let count = named.value as usize;
-    if named.number == refusal::DONE {
-        if parts::same_bytes(&line[..count], text) {
-            return Answer {
-                number: refusal::DONE,
-                value,
-            };
-        }
-    }
-    Answer {
-        number: refusal::TEXT,
-        value: 0,
+    match names::text(word, facts, &mut line) {
+        Ok(count) if parts::same_bytes(&line[..count], text) => Ok(word),
+        _ => Err(Refusal::Text),
     }
 }

@@ -1,6 +1,6 @@
 -- The widths of lanes that fill a segment, and where the lanes of its halves stand.
 -- Assumes nothing.
-use Rattle.std.proofs.Common.{◌≡◌, ℕ, zero, suc, ◌+◌, ◌*◌, ◌/◌, ◌%◌, ◌<◌, ◌≤◌, refl, ap, ◌∙◌, mul-le-mul_right, mul_assoc, add-mul, one-mul, le-mul_of_pos_right, arith}
+use Rattle.std.proofs.Common.{◌≡◌, ℕ, zero, suc, ◌+◌, ◌*◌, ◌/◌, ◌%◌, ◌<◌, ◌≤◌, refl, ap, ◌∙◌, mul-le-mul_right, mul_assoc, add-mul, one-mul, arith}
 use Rattle.machine.proofs.Places.{place_within}
 use Rattle.sums.specs.Panel.{per_segment, FillsSegment}
 use Rattle.columns.specs.Added.{half_bytes, per_half}
@@ -27,9 +27,6 @@ last_width = filling (λ (w : ℕ). (w ≡ 1 → ⊥) → (w ≡ 2 → ⊥) → 
 pub fills_half : (w : ℕ) → 1 ≤ w → w ≤ 8 → FillsSegment w → per_half w * w ≡ half_bytes
 fills_half = filling (λ (w : ℕ). per_half w * w ≡ half_bytes) refl refl refl refl
 
-pub some_lanes : (w : ℕ) → 1 ≤ w → w ≤ 8 → FillsSegment w → 0 < per_half w
-some_lanes = filling (λ (w : ℕ). 0 < per_half w) (omega arith) (omega arith) (omega arith) (omega arith)
-
 pub two_halves : (w : ℕ) → 1 ≤ w → w ≤ 8 → FillsSegment w → per_segment w ≡ per_half w + per_half w
 two_halves = filling (λ (w : ℕ). per_segment w ≡ per_half w + per_half w) refl refl refl refl
 
@@ -49,9 +46,6 @@ module _ (w n h e : ℕ) (below : e < n) where
   pub place_below : per_segment w ≡ n + n → h % 2 * n + e < per_segment w
   place_below whole = omega (arith, whole, mul-le-mul_right {m = h % 2} {n = 1} n (omega arith), one-mul n)
 
-  -- it lies within the half, and its number is not above where the half ends
+  -- it lies within the half
   pub lane_in_half : n * w ≡ half_bytes → (h * n + e) * w + w ≤ h * half_bytes + half_bytes
   lane_in_half fills = omega (arith, add-mul (h * n) e w, mul_assoc h n w ∙ ap (λ (k : ℕ). h * k) fills, place_within e n w below, fills)
-
-  pub number_in_half : n * w ≡ half_bytes → 1 ≤ w → h * n + e ≤ h * half_bytes + half_bytes
-  number_in_half fills some = omega (arith, lane_in_half fills, le-mul_of_pos_right (h * n + e) some)

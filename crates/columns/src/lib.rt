@@ -18,7 +18,7 @@ fn add_lane(row: &mut [u8], w: usize, e: usize, n: u64)
     ensures { row.new ≡ with_lane w e (laneAt w e row.old + n) row.old }
 {
     let old = lanes::lane(row, w, e);
-    let sum = std::num::wrapping_add_u64(old, n);
+    let sum = old.wrapping_add(n);
     lanes::put_lane(row, w, e, sum);
 }
 
@@ -31,25 +31,21 @@ fn add_half(row: &mut [u8; 16], register: &[u8], predicate: &[u8], w: usize, h: 
     let count = HALF / w;
     let place = h % 2 * count;
     let first = h * count;
-    let mut e = 0;
-    while e < count {
+    for e in 0..count {
         let n = sums::lane_value(register, predicate, w, false, first + e);
         add_lane(row, w, place + e, n);
-        e += 1;
     }
 }
 
 // The segments of a register added half by half, place by place.
-fn add_segments(register: &[u8], predicate: &[u8], w: usize) -> [u8; 16]
-    requires { GovernedSegments w predicate.now register.now }
-    ensures { result ≡ from_lanes w 0 (per_segment w) (column_sum w predicate.now register.now) }
+fn add_segments<const W: usize>(register: &[u8], predicate: &[u8]) -> [u8; 16]
+    requires { GovernedSegments W predicate.now register.now }
+    ensures { result ≡ from_lanes W 0 (per_segment W) (column_sum W predicate.now register.now) }
 {
     let count = register.len() / HALF;
     let mut row = [0u8; 16];
-    let mut h = 0;
-    while h < count {
-        add_half(&mut row, register, predicate, w, h);
-        h += 1;
+    for h in 0..count {
+        add_half(&mut row, register, predicate, W, h);
     }
     row
 }
@@ -61,9 +57,9 @@ pub fn segment_sums(register: &[u8], predicate: &[u8], w: usize) -> [u8; 16]
     ensures { result ≡ from_lanes w 0 (per_segment w) (column_sum w predicate.now register.now) }
 {
     match w {
-        1 => add_segments(register, predicate, 1),
-        2 => add_segments(register, predicate, 2),
-        4 => add_segments(register, predicate, 4),
-        _ => add_segments(register, predicate, 8),
+        1 => add_segments::<1>(register, predicate),
+        2 => add_segments::<2>(register, predicate),
+        4 => add_segments::<4>(register, predicate),
+        _ => add_segments::<8>(register, predicate),
     }
 }

@@ -6,21 +6,24 @@ use mathlib.Core.Path.{◌≡◌, refl, sym, ◌∙◌, ap}
 use mathlib.Core.Bool.{Bool, true, false}
 use mathlib.Core.Logic.{◌↔◌, ◌⊎◌, inl, inr}
 use native.Mathlib.Omega.{arith}
+use Rattle.std.specs.Prelude.{Result}
+use Rattle.machine.specs.declared.refusal.Refusal.{Refusal}
 use Rattle.machine.specs.Refusal.{DONE, UNKNOWN, UNDEFINED}
 use Rattle.machine.proofs.Tests.{one_result}
 use Rattle.facts.specs.Facts.{all_facts, Among}
 use Rattle.facts.specs.declared.Facts.{Facts}
-use Rattle.words.specs.Decode.{pick_decoded, decoded, number_of, fields_of}
+use Rattle.words.specs.Decode.{pick_decoded, decoded, decoding, number_of, fields_of}
 use Rattle.words.specs.declared.Fields.{Fields}
-use Rattle.words.specs.declared.Decoded.{Decoded}
-use Rattle.words.specs.declared.Decoded.TheVariants.{Unknown, Undefined, Word}
+use Rattle.words.specs.Decode.{Decoded}
+use Rattle.words.specs.Decode.{Unknown, Undefined, Word}
 use Rattle.cores.specs.Need.{has, need_of}
 use Rattle.cores.specs.Core.{granted, on_core, decoded_on, Granted, Lacking}
 use Rattle.cores.proofs.Needs.{has_all, has_more}
 
 -- two results that the contract of `decode` allows are the same
-pub decode_on_determined : (facts : Facts) (word : ℕ) (r s : Decoded) → r ≡ decoded_on facts word → s ≡ decoded_on facts word → r ≡ s
-decode_on_determined facts word = one_result (decoded_on facts word)
+pub decode_on_determined : (facts : Facts) (word : ℕ) (r s : Result Fields Refusal)
+    → r ≡ decoding (decoded_on facts word) → s ≡ decoding (decoded_on facts word) → r ≡ s
+decode_on_determined facts word = one_result (decoding (decoded_on facts word))
 
 -- fields by whether the core has what their row needs
 granted_by : (facts : Facts) (f : Fields) (t : Bool) → has facts (need_of f.row) ≡ t → granted facts f ≡ pick_decoded t (Word f) Undefined

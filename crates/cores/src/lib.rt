@@ -3,11 +3,13 @@
 
 ghost use Rattle.std.specs.Prelude.{◌≡◌, ◌<◌};
 ghost use Rattle.rows.specs.Table.{rows};
+ghost use Rattle.words.specs.Decode.{decoding};
 ghost use Rattle.cores.specs.Need.{has, need_of};
 ghost use Rattle.cores.specs.Core.{granted, decoded_on};
 
 use facts::Facts;
-use words::{Decoded, Fields};
+use machine::Refusal;
+use words::Fields;
 
 // The places of the rows that need something else than the widening and pairwise ones.
 const SADDV: usize = 0;
@@ -58,25 +60,21 @@ pub fn need_of(row: usize) -> Need
     }
 }
 
-// A word with these fields, where the core has what its row needs.
-fn grant(facts: Facts, fields: Fields) -> Decoded
+// A word with these fields where the core has what its row needs; else UNDEFINED.
+fn grant(facts: Facts, fields: Fields) -> Result<Fields, Refusal>
     requires { fields.row < rows }
-    ensures { result ≡ granted facts fields }
+    ensures { result ≡ decoding (granted facts fields) }
 {
     if has(facts, need_of(fields.row)) {
-        Decoded::Word(fields)
+        Ok(fields)
     } else {
-        Decoded::Undefined
+        Err(Refusal::Undefined)
     }
 }
 
-// What a word decodes to on a core with these facts.
-pub fn decode(word: u32, facts: Facts) -> Decoded
-    ensures { result ≡ decoded_on facts word }
+// The fields that a word decodes to on a core with these facts; or UNKNOWN or UNDEFINED.
+pub fn decode(word: u32, facts: Facts) -> Result<Fields, Refusal>
+    ensures { result ≡ decoding (decoded_on facts word) }
 {
-    match words::decode(word) {
-        Decoded::Unknown => Decoded::Unknown,
-        Decoded::Undefined => Decoded::Undefined,
-        Decoded::Word(fields) => grant(facts, fields),
-    }
+    grant(facts, words::decode(word)?)
 }

@@ -10,7 +10,7 @@ use Rattle.machine.specs.Refusal.{DONE, SESSION, unless_refused}
 use Rattle.registers.specs.State.{State}
 use Rattle.facts.specs.Facts.{all_facts}
 use Rattle.facts.specs.declared.Facts.{Facts}
-use Rattle.words.specs.declared.Decoded.{Decoded}
+use Rattle.words.specs.Decode.{Decoded}
 use Rattle.cores.proofs.Answers.{on_all}
 use Rattle.journal.specs.Left.{core_of, Buffers, Left}
 use Rattle.steps.specs.Calls.{word_now, stepped, step_by, backed}

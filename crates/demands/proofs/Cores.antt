@@ -8,7 +8,7 @@ use mathlib.Core.List.{List, ◌∷◌, ◌++◌}
 use native.Mathlib.Omega.{arith}
 use lib.Dec.{eqb, ltb}
 use Rattle.machine.specs.Refusal.{DONE, UNDEFINED, TEXT, out_test, only_where, first, None, refused}
-use Rattle.machine.specs.declared.Answer.{Answer}
+use Rattle.machine.specs.Refusal.{Answer}
 use Rattle.machine.proofs.Tests.{first_none}
 use Rattle.registers.specs.State.{State}
 use Rattle.facts.specs.Facts.{all_facts, Among}
@@ -16,8 +16,8 @@ use Rattle.facts.specs.declared.Facts.{Facts}
 use Rattle.rows.specs.Digits.{word_digits}
 use Rattle.programs.specs.Word.{word_at}
 use Rattle.words.specs.Decode.{decoded, number_of, word_tests}
-use Rattle.words.specs.declared.Decoded.{Decoded}
-use Rattle.words.specs.declared.Decoded.TheVariants.{Unknown, Undefined, Word}
+use Rattle.words.specs.Decode.{Decoded}
+use Rattle.words.specs.Decode.{Unknown, Undefined, Word}
 use Rattle.cores.specs.Core.{decoded_on, Lacking}
 use Rattle.cores.proofs.Answers.{Verdict, unknown, undefined, accepted, lacking, verdict, core_decodes, undefined_on, on_all, on_more, done_word}
 use Rattle.names.specs.Named.{least_out, text_of_word, name_refused}

@@ -9,13 +9,13 @@ use mathlib.Core.List.{List, []}
 use native.Mathlib.Omega.{arith}
 use lib.ListN.{length}
 use Rattle.parts.specs.Part.{laid}
-use Rattle.machine.specs.declared.Answer.{Answer}
+use Rattle.machine.specs.Refusal.{Answer}
 use Rattle.machine.proofs.Tests.{first_exactly, unless_refused_lem}
 use Rattle.facts.specs.declared.Facts.{Facts}
 use Rattle.facts.specs.Facts.{all_facts}
 use Rattle.words.specs.Decode.{decoded, number_of, fields_of, no_fields}
-use Rattle.words.specs.declared.Decoded.{Decoded}
-use Rattle.words.specs.declared.Decoded.TheVariants.{Unknown, Undefined, Word}
+use Rattle.words.specs.Decode.{Decoded}
+use Rattle.words.specs.Decode.{Unknown, Undefined, Word}
 use Rattle.words.proofs.Answers.{unknown_exactly, undefined_exactly}
 use Rattle.cores.specs.Core.{decoded_on}
 use Rattle.cores.proofs.Answers.{unknown_on, undefined_on, accepted_exactly, on_all}
@@ -27,17 +27,17 @@ use Rattle.registers.specs.Register.{file_of, register_of, vector_of, predicate_
 use Rattle.registers.specs.State.{State}
 use Rattle.lanes.specs.Lane.{width_of}
 use Rattle.programs.specs.Word.{word_at, place_tests, next_refused}
-use Rattle.programs.specs.declared.reader.Read.{Read}
+use Rattle.programs.specs.Read.{Read}
 use Rattle.pane.specs.Drawn.{register_tests}
 use Rattle.pane.proofs.Drawing.{register_in_order, empty_place}
 use Rattle.sums.specs.Panel.{panel_of, no_panel}
 use Rattle.totals.specs.Calls.{panel_tests, subtotal_tests}
 use Rattle.totals.specs.Written.{panel_written_tests, panel_laid}
 use Rattle.totals.specs.Lane.{lane_tests, lane_refused, lane_told, no_lane}
-use Rattle.totals.specs.declared.Lane.{Lane}
+use Rattle.totals.specs.Lane.{Lane}
 use Rattle.totals.proofs.Lanes.{lane_in_order}
 use Rattle.about.specs.About.{row_tests, row_refused, row_told, no_about}
-use Rattle.about.specs.declared.About.{About}
+use Rattle.about.specs.About.{About}
 use Rattle.about.proofs.Answers.{row_in_order}
 use Rattle.totals.proofs.Answers.{panel_in_order, subtotal_in_order}
 use Rattle.totals.proofs.Written.{panel_written_in_order}
@@ -45,7 +45,7 @@ use Rattle.names.specs.Named.{text_of_word, name_tests}
 use Rattle.names.proofs.Naming.{name_in_order}
 use Rattle.entries.specs.Layout.{position_of}
 use Rattle.journal.specs.Calls.{fresh_tests, back_tests, position_tests, position_refused, entry_tests, entry_refused, entry_told, no_entry}
-use Rattle.journal.specs.declared.Held.{Held}
+use Rattle.journal.specs.Calls.{Held}
 use Rattle.journal.proofs.Left.{number_left, buffers_left}
 use Rattle.journal.proofs.Accepted.{fresh_number, fresh_refused}
 use Rattle.journal.proofs.Answers.{fresh_in_order, position_in_order, entry_in_order}

@@ -10,7 +10,7 @@ use lib.Dec.{ltb}
 use lib.ListN.{length, take}
 use borrow.Author.Tests.{ltb-true, ltb-false}
 use Rattle.machine.specs.Refusal.{DONE, OUT}
-use Rattle.machine.specs.declared.Answer.{Answer}
+use Rattle.machine.specs.Refusal.{Answer}
 use Rattle.facts.specs.declared.Facts.{Facts}
 use Rattle.names.specs.Named.{least_out, Named}
 use Rattle.assembles.specs.Assembled.{Assembled}

@@ -36,7 +36,7 @@ use Rattle.rows.specs.declared.LowFamily.TheVariants.{Reduction, Segment, Long}
 use Rattle.rows.specs.declared.WideFamily.TheVariants.{Pairwise, Widening}
 use Rattle.words.specs.Sizes.{allows, allows_family}
 use Rattle.words.specs.declared.Fields.{Fields}
-use Rattle.words.specs.declared.Decoded.TheVariants.{Word}
+use Rattle.words.specs.Decode.{Word}
 use Rattle.words.proofs.Decoding.{governing_below, q_below, size_in_lem}
 use Rattle.words.proofs.Encoding.{decoded_in_range}
 use Rattle.facts.specs.declared.Facts.{Facts}
@@ -45,13 +45,13 @@ use Rattle.cores.specs.Core.{decoded_on}
 use Rattle.cores.proofs.Answers.{core_decodes}
 use Rattle.totals.specs.Calls.{lanes_at}
 use Rattle.totals.specs.Lane.{lane_told}
-use Rattle.totals.specs.declared.Lane.{Lane}
+use Rattle.totals.specs.Lane.{Lane}
 use Rattle.totals.proofs.Accepted.{Accepted}
 use Rattle.totals.proofs.Lanes.{lane_is_told}
 use Rattle.about.specs.Widths.{family_bytes, allows_some, bytes_at, bytes_by_size}
 use Rattle.about.specs.About.{reads_destination, row_told, about_answer, writes_predicate}
 use Rattle.about.proofs.Answers.{row_is_told, sign_told_lem, governing_told, second_told, reads_told, source_told, writes_told}
-use Rattle.about.specs.declared.About.{About}
+use Rattle.about.specs.About.{About}
 use Rattle.about.specs.declared.Operand.{Operand}
 use Rattle.about.specs.declared.Operand.TheVariants.{Destination}
 use Rattle.meaning.specs.Terms.{Source, Operand1, Operand2, Old, Term, operand_of}
@@ -68,7 +68,7 @@ use Rattle.entries.proofs.Written.{last_named, length_last}
 use Rattle.entries.proofs.Restored.{put_back_whole}
 use Rattle.journal.specs.Left.{Buffers}
 use Rattle.journal.specs.Calls.{entry_told, entry_answer}
-use Rattle.journal.specs.declared.Held.{Held}
+use Rattle.journal.specs.Calls.{Held}
 use Rattle.journal.proofs.Left.{number_left, buffers_left}
 use Rattle.journal.proofs.Accepted.{Returning, AcceptedPosition, entry_accepts}
 use Rattle.steps.specs.Calls.{Backed}

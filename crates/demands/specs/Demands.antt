@@ -5,7 +5,7 @@ use Rattle.std.specs.Borrow.{Bor}
 use Rattle.parts.specs.Number.{bits_of}
 use Rattle.machine.specs.Size.{vector_bytes, segment_bytes}
 use Rattle.machine.specs.Refusal.{DONE, UNKNOWN, UNDEFINED, OUT, TEXT, SESSION, Test, in_order, First}
-use Rattle.machine.specs.declared.Answer.{Answer}
+use Rattle.machine.specs.Refusal.{Answer}
 use Rattle.registers.specs.declared.Kind.{Kind}
 use Rattle.registers.specs.Register.{register_from, vector_of, predicate_of}
 use Rattle.registers.specs.State.{State, read}
@@ -24,22 +24,22 @@ use Rattle.facts.specs.declared.Facts.{Facts}
 use Rattle.facts.specs.Facts.{all_facts}
 use Rattle.words.specs.Decode.{decoded, number_of, fields_of, no_fields, RowWith}
 use Rattle.words.specs.declared.Fields.{Fields}
-use Rattle.words.specs.declared.Decoded.{Decoded}
-use Rattle.words.specs.declared.Decoded.TheVariants.{Word}
+use Rattle.words.specs.Decode.{Decoded}
+use Rattle.words.specs.Decode.{Word}
 use Rattle.cores.specs.Core.{decoded_on, Granted, Lacking}
 use Rattle.programs.specs.Word.{word_at, words_of, place_tests, next_word}
 use Rattle.programs.specs.Read.{read_next}
-use Rattle.programs.specs.declared.Next.{Next}
+use Rattle.programs.specs.Word.{Next}
 use Rattle.programs.specs.declared.reader.Reader.{Reader}
-use Rattle.programs.specs.declared.reader.Read.{Read}
+use Rattle.programs.specs.Read.{Read}
 use Rattle.pane.specs.Drawn.{register_tests, register_refused, IsPart}
 use Rattle.sums.specs.Panel.{per_segment, no_panel}
 use Rattle.totals.specs.Calls.{panel_tests, panel_refused, panel_answer, subtotal_tests, subtotal_answer}
 use Rattle.totals.specs.Written.{panel_written_tests, PanelWritten}
 use Rattle.totals.specs.Lane.{lane_tests, lane_answer, no_lane}
-use Rattle.totals.specs.declared.Lane.{Lane}
+use Rattle.totals.specs.Lane.{Lane}
 use Rattle.about.specs.About.{row_tests, about_answer, no_about}
-use Rattle.about.specs.declared.About.{About}
+use Rattle.about.specs.About.{About}
 use Rattle.names.specs.Named.{least_out, name_tests, Named}
 use Rattle.assembles.specs.Assembled.{ReadsAs, Assembled}
 use Rattle.meaning.specs.Terms.{negated_where, data_bytes, selected}
@@ -48,11 +48,11 @@ use Rattle.meaning.specs.Theorems.{is_exact, answer_signed, is_governed, governe
 use Rattle.entries.specs.Layout.{held_of, position_of}
 use Rattle.journal.specs.Left.{Core, Buffers}
 use Rattle.journal.specs.Calls.{fresh_tests, back_tests, position_tests, position_answer, entry_tests, entry_answer, no_entry, Freshened}
-use Rattle.journal.specs.declared.Held.{Held}
+use Rattle.journal.specs.Calls.{Held}
 use Rattle.steps.specs.Calls.{fields_now, step_tests, Stepped, Backed}
 use Rattle.steps.specs.Frame.{Kept}
 use Rattle.lines.specs.Line.{line_tests, session_line_tests, LineWritten, SessionLineWritten}
-use Rattle.session.specs.declared.Session.{Session}
+use Rattle.session.specs.Body.{Session}
 use Rattle.session.specs.Body.{no_session}
 use Rattle.session.specs.Layout.{session_tests, session_of, IsSession}
 use Rattle.walks.specs.Output.{output_tests, OutputWritten}

@@ -9,15 +9,14 @@ use Rattle.lanes.specs.Lane.{width_of}
 use Rattle.lanes.specs.Integer.{residue}
 use Rattle.words.specs.declared.Fields.{Fields}
 use Rattle.totals.specs.Lane.{lane_answer}
-use Rattle.totals.specs.declared.Lane.{Lane}
+use Rattle.totals.specs.Lane.{Lane}
 use Rattle.about.specs.About.{about_answer}
-use Rattle.about.specs.declared.About.{About}
+use Rattle.about.specs.About.{About}
 use Rattle.meaning.specs.Terms.{Source, Operand1, Operand2, Old, Term, element_of}
 use Rattle.meaning.specs.Execute.{source_of, governing_of, operands_of}
 use Rattle.entries.specs.Layout.{held_of}
 use Rattle.journal.specs.Left.{Buffers}
 use Rattle.journal.specs.Calls.{entry_answer}
-use Rattle.journal.specs.declared.Held.{Held}
 
 -- each of some terms has a property
 abbrev pub Each : (Term → Type 0) → List Term → Type 0

@@ -61,6 +61,39 @@ width more n = go (ltb n 10) refl
     go true e = one (ltb-true n 10 e) (rw e)
     go false e = further (ltb-false n 10 e) (rw e)
 
+-- the digits counted, the last of them the rest's own, and how many further the rest may have
+pub record Counted (n rest count : ℕ) : Type 0 where
+  pub more : ℕ
+  pub room : count + more ≡ most_digits
+  pub below : rest < 10 ^ suc more
+  pub all : count + width_within (suc more) rest ≡ suc (decimal_width n)
+
+-- before the first further digit
+pub counted_first : (n : ℕ) → n < 2 ^ 64 → Counted n n 1
+unfolding decimal_width
+counted_first n h = record { more = most_digits - 1; room = refl; below = omega arith; all = omega arith }
+
+-- a rest of two digits or more: a digit further is counted
+pub counted_next : (n rest count : ℕ) → Counted n rest count → 10 ≤ rest → Counted n (rest / 10) (count + 1)
+counted_next n rest count c h = go c.more c.room c.below c.all
+  where
+    go : (more : ℕ) → count + more ≡ most_digits → rest < 10 ^ suc more → count + width_within (suc more) rest ≡ suc (decimal_width n)
+        → Counted n (rest / 10) (count + 1)
+    go zero room below all = absurd (omega arith)
+    go (suc more) room below all = by (width (suc more) rest)
+      where
+        by : Width (suc more) rest → Counted n (rest / 10) (count + 1)
+        by (one p e) = absurd (omega arith)
+        by (further p e) = record { more = more; room = omega arith; below = div_ten_below rest (suc more) below; all = omega arith }
+
+-- a rest of one digit: all are counted
+pub counted_last : (n rest count : ℕ) → Counted n rest count → rest < 10 → count ≡ decimal_width n
+counted_last n rest count c h = go (width c.more rest)
+  where
+    go : Width c.more rest → count ≡ decimal_width n
+    go (one p e) = omega (arith, c.all)
+    go (further p e) = absurd (omega arith)
+
 -- no more digits are counted than asked for
 within_most : (most n : ℕ) → width_within most n ≤ most
 unfolding width_within

@@ -30,6 +30,7 @@ pub fn put_bytes(out: &mut [u8], at: usize, piece: &[u8]) -> usize
 }
 
 // The digit of a value below sixteen.
+#[tactic(auto, unfolding(crate::specs::Digits::digit_of))]
 fn digit(d: usize) -> u8
     requires { d < 16 }
     ensures { result ≡ digit_of d }
@@ -43,11 +44,9 @@ pub fn put_digits(out: &mut [u8], at: usize, base: usize, count: usize, n: usize
     ensures { Put out.old at (digits_in base count n) out.new result }
 {
     let mut rest = n;
-    let mut i = count;
-    while 0 < i {
-        i -= 1;
+    for i in (0..count).rev() {
         out[at + i] = digit(rest % base);
-        rest = rest / base;
+        rest /= base;
     }
     at + count
 }
@@ -59,13 +58,14 @@ fn decimal_width(n: usize) -> usize
     let mut rest = n;
     let mut count = 1;
     while TEN <= rest {
-        rest = rest / TEN;
+        rest /= TEN;
         count += 1;
     }
     count
 }
 
 // Writes a number in decimal, without leading zeros.
+#[tactic(auto, using(crate::proofs::Decimals::digits_length))]
 pub fn put_decimal(out: &mut [u8], at: usize, n: usize) -> usize
     requires { at + length (decimal n) ≤ length out.old }
     ensures { Put out.old at (decimal n) out.new result }

@@ -1,7 +1,7 @@
--- Half lanes: half lanes 2e and 2e+1 lie within lane e of the full width, and their numbers are small. So registers that have the same
--- bytes in lane e have the same element e and the same half elements.
+-- Half lanes: half lanes 2e and 2e+1 lie within lane e of the full width. So registers that have the same bytes in lane e
+-- have the same element e and the same half elements.
 -- Assumes nothing.
-use Rattle.std.proofs.Common.{◌≡◌, ℕ, ◌+◌, ◌*◌, ◌/◌, ◌<◌, ◌≤◌, Bool, true, false, cond, List, length, sym, ap, ◌∙◌, mul-le-mul_right, mul_assoc, mul_comm, add-mul, mul-le-mul_left, one-mul, arith}
+use Rattle.std.proofs.Common.{◌≡◌, ℕ, ◌+◌, ◌*◌, ◌/◌, ◌≤◌, Bool, true, false, cond, List, length, sym, ap, ◌∙◌, mul-le-mul_right, mul_assoc, mul_comm, add-mul, one-mul, arith}
 use Rattle.parts.specs.Part.{part}
 use Rattle.parts.specs.Number.{number, bits_of}
 use Rattle.parts.proofs.Parts.{part_part}
@@ -18,13 +18,6 @@ half_starts w e i h = omega (arith, add-mul (2 * e) i (w / 2), twice)
 -- half lane 2e + i, with i at most 1, ends within lane e
 pub half_inside : (w e i : ℕ) → w / 2 * 2 ≡ w → i ≤ 1 → (2 * e + i) * (w / 2) + w / 2 ≤ e * w + w
 half_inside w e i h l = omega (arith, half_starts w e i h, mul-le-mul_right (w / 2) l, one-mul (w / 2))
-
--- the number of a half lane is at most the place where its lane ends
-pub half_number : (w e : ℕ) → w / 2 * 2 ≡ w → 0 < w → 2 * e + 2 ≤ e * w + w
-half_number w e h l = omega (arith, mul-le-mul_left e least, mul_comm 2 e, mul_comm e 2)
-  where
-    least : 2 ≤ w
-    least = omega (arith, h, l)
 
 -- the half element that a form takes is one of the two
 pub half_taken : (top : Bool) → cond top 1 0 ≤ 1

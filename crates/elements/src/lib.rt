@@ -10,20 +10,12 @@ ghost use Rattle.elements.specs.Needs.{HalfLanes};
 
 use rows::Parameters;
 
-// Which half element of a lane is taken: 0 for the bottom, 1 for the top.
-fn selection(top: bool) -> usize
-    ensures { result ≡ (if top then 1 else 0) }
-{
-    if top { 1 } else { 0 }
-}
-
 // The integer that the bottom or the top half element of lane e stands for, at 64 bits.
 fn half_at(operand: &[u8], w: usize, signed: bool, top: bool, e: usize) -> u64
     requires { HalfLanes w e operand.now }
     ensures { result ≡ residue 64 (element signed (w / 2) operand.now (selected top e)) }
 {
-    let i = selection(top);
-    lanes::element_at(operand, w / 2, signed, 2 * e + i)
+    lanes::element_at(operand, w / 2, signed, 2 * e + usize::from(top))
 }
 
 // The sum of both half elements of lane e, at 64 bits.
@@ -33,7 +25,7 @@ fn pair_sum(operand: &[u8], w: usize, signed: bool, e: usize) -> u64
 {
     let bottom = half_at(operand, w, signed, false, e);
     let top = half_at(operand, w, signed, true, e);
-    std::num::wrapping_add_u64(bottom, top)
+    bottom.wrapping_add(top)
 }
 
 // Lane e of a pairwise accumulate: the old lane with both half elements of the source, if it is active.
@@ -46,7 +38,7 @@ pub fn pairwise_lane(p: &[u8], n: &[u8], d: &[u8], w: usize, signed: bool, e: us
         return old;
     }
     let gained = pair_sum(n, w, signed, e);
-    std::num::wrapping_add_u64(old, gained)
+    old.wrapping_add(gained)
 }
 
 // The first element of a widening word's lane e: the selected half element of the first source, or in a wide form its lane e.
@@ -69,8 +61,8 @@ pub fn widening_lane(n: &[u8], m: &[u8], w: usize, parameters: Parameters, e: us
     let first = first_element(n, w, parameters, e);
     let second = half_at(m, w, parameters.signed, parameters.top, e);
     if parameters.subtract {
-        std::num::wrapping_sub_u64(first, second)
+        first.wrapping_sub(second)
     } else {
-        std::num::wrapping_add_u64(first, second)
+        first.wrapping_add(second)
     }
 }

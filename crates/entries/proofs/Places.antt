@@ -6,6 +6,7 @@ use mathlib.Core.Path.{◌≡◌, refl, ◌∙◌}
 use mathlib.Core.Bool.{Bool, true, false}
 use mathlib.Core.List.{List, [], ◌∷◌, ◌++◌}
 use native.Mathlib.Nat.{add-zero, zero-add, mul-zero, add-mul-mod_self_left, add-mul-div_left, mod-eq_of_lt, div-eq_of_lt, suc-mul, mul-le-mul_right, div-mul-le_self, div-le_self}
+use native.Mathlib.Numerals.{add-one}
 use native.Mathlib.Omega.{arith}
 use lib.Dec.{leb, ltb}
 use lib.ListN.{length, get_or}
@@ -97,6 +98,11 @@ module _ (greatest : ℕ) where
     all_named zero each = refl
     all_named (suc n) each =
         named_more (first_entries k journal n) (entry_in k journal n) (all_named n (λ i h. each i (omega arith))) (each n (omega arith))
+
+    -- the entry after the first n is one more of them
+    pub named_next : (n : ℕ) → are_named greatest (first_entries k journal n) ≡ true → (entry_in k journal n).number ≤ greatest
+        → are_named greatest (first_entries k journal (n + 1)) ≡ true
+    named_next n e h = rw (add-one n) (named_more (first_entries k journal n) (entry_in k journal n) e h)
 
     -- an entry among them that has none
     pub named_fail : (n i : ℕ) → i < n → greatest < (entry_in k journal i).number → are_named greatest (first_entries k journal n) ≡ false

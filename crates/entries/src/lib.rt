@@ -4,14 +4,13 @@
 
 ghost use Rattle.std.specs.Prelude.{◌≡◌, ◌+◌, ◌^◌, ◌≤◌, ◌<◌, length, take};
 ghost use Rattle.parts.specs.Part.{same_bytes};
-ghost use Rattle.machine.specs.Size.{most_length};
-ghost use Rattle.machine.specs.Refusal.{refused};
+ghost use Rattle.machine.specs.Refusal.{answered, refused};
 ghost use Rattle.entries.specs.Layout.{heading as headingOf, is_version, laid_out, layout_of, version_of, header_of, greatest_of, entry_bytes, capacity_for};
 ghost use Rattle.entries.specs.Layout.{count_at, count_bytes, slot_at, slot_of, entry_at, held_of, position_of, is_full, is_journal, may_name, are_named, first_entries};
 ghost use Rattle.entries.specs.Tests.{room_tests, version_tests, journal_tests};
 ghost use Rattle.entries.specs.Needs.{SameLayout, Headed, EntryInside, Fits};
 
-use machine::{Length, refusal};
+use machine::{Length, Refusal};
 
 // What a version of the journal has: the bytes before its entries, and the greatest number of an entry.
 #[derive(Clone, Copy)]
@@ -21,7 +20,7 @@ pub struct Layout {
 }
 
 // The mark, the versions that are defined, and where the version stands and its bytes.
-pub const MARK: [u8; 3] = [76, 78, 74];
+pub const MARK: [u8; 3] = *b"LNJ";
 
 pub const FORMER_VERSION: usize = 1;
 
@@ -58,20 +57,19 @@ pub fn is_version(version: usize) -> bool
     ensures { result ≡ is_version version }
 {
     match version {
-        FORMER_VERSION => true,
-        CURRENT_VERSION => true,
+        FORMER_VERSION | CURRENT_VERSION => true,
         _ => false,
     }
 }
 
-// The refusal of a version that a fresh journal is to have: JOURNAL or DONE.
-pub fn check_version(version: usize) -> u8
-    ensures { result ≡ refused (version_tests version) }
+// Whether a version that a fresh journal is to have is refused: JOURNAL.
+pub fn check_version(version: usize) -> Result<(), Refusal>
+    ensures { answered result ≡ refused (version_tests version) }
 {
     if is_version(version) {
-        refusal::DONE
+        Ok(())
     } else {
-        refusal::JOURNAL
+        Err(Refusal::Journal)
     }
 }
 
@@ -83,6 +81,7 @@ fn laid_out(header: usize, greatest: usize) -> Layout
 }
 
 // The layout of a version, a line for each.
+#[tactic(auto, unfolding(crate::specs::Layout::layout_of))]
 pub fn layout_of(version: usize) -> Layout
     ensures { SameLayout result (layout_of version) }
 {
@@ -93,6 +92,7 @@ pub fn layout_of(version: usize) -> Layout
 }
 
 // The layout of a journal's version.
+#[tactic(auto, using(crate::proofs::Versions::header_least))]
 fn layout_in(journal: &[u8]) -> Layout
     requires { header_of journal.now ≤ length journal.now }
     ensures { SameLayout result (layout_of (version_of journal.now)) }
@@ -100,73 +100,74 @@ fn layout_in(journal: &[u8]) -> Layout
     layout_of(version_of(journal))
 }
 
-// The refusal of a size for a version: ROOM or DONE.
-pub fn check_room_for(version: usize, bytes: usize) -> u8
-    ensures { result ≡ refused (room_tests version bytes) }
+// Whether a size for a version is refused: ROOM.
+pub fn check_room_for(version: usize, bytes: usize) -> Result<(), Refusal>
+    ensures { answered result ≡ refused (room_tests version bytes) }
 {
     let layout = layout_of(version);
-    if bytes < layout.header {
-        return refusal::ROOM;
+    if (layout.header..=MOST).contains(&bytes) {
+        Ok(())
+    } else {
+        Err(Refusal::Room)
     }
-    if MOST < bytes {
-        return refusal::ROOM;
-    }
-    refusal::DONE
 }
 
-// The refusal of a journal's size: ROOM or DONE.
-pub fn check_room(journal: &[u8]) -> u8
-    ensures { result ≡ refused (room_tests (version_of journal.now) (length journal.now)) }
+// Whether a journal's size is refused: ROOM.
+#[tactic(auto, using(crate::proofs::Versions::header_least))]
+pub fn check_room(journal: &[u8]) -> Result<(), Refusal>
+    ensures { answered result ≡ refused (room_tests (version_of journal.now) (length journal.now)) }
 {
     if journal.len() < LEAST_HEADER {
-        return refusal::ROOM;
+        return Err(Refusal::Room);
     }
     check_room_for(version_of(journal), journal.len())
 }
 
 // The bytes of an entry.
-pub fn entry_bytes(k: usize) -> usize
-    requires { k ≤ most_length }
-    ensures { result ≡ entry_bytes k }
+pub fn entry_bytes(k: Length) -> usize
+    ensures { result ≡ entry_bytes k.units }
 {
-    1 + Length { k }.vector_bytes()
+    1 + k.vector_bytes()
 }
 
 // How many entries so many bytes hold after a header.
-pub fn capacity(header: usize, k: usize, bytes: usize) -> usize
-    requires { (k ≤ most_length) × (header ≤ bytes) }
-    ensures { result ≡ capacity_for header k bytes }
+pub fn capacity(header: usize, k: Length, bytes: usize) -> usize
+    requires { header ≤ bytes }
+    ensures { result ≡ capacity_for header k.units bytes }
 {
     (bytes - header) / entry_bytes(k)
 }
 
 // Where a slot starts after a header.
-pub fn slot_at(header: usize, k: usize, slot: usize) -> usize
-    requires { (k ≤ most_length) × (slot_at header k slot < 2 ^ 64) }
-    ensures { result ≡ slot_at header k slot }
+pub fn slot_at(header: usize, k: Length, slot: usize) -> usize
+    requires { slot_at header k.units slot < 2 ^ 64 }
+    ensures { result ≡ slot_at header k.units slot }
 {
     header + slot * entry_bytes(k)
 }
 
 // The slot of a journal's entry i, the oldest being 0.
-pub fn slot_of(k: usize, journal: &[u8], i: usize) -> usize
-    requires { EntryInside k i journal.now }
-    ensures { result ≡ slot_of k journal.now i }
+#[tactic(auto, unfolding(crate::specs::Layout::slot_of))]
+pub fn slot_of(k: Length, journal: &[u8], i: usize) -> usize
+    requires { EntryInside k.units i journal.now }
+    ensures { result ≡ slot_of k.units journal.now i }
 {
     let slot = i;
     slot
 }
 
 // Where a journal's entry i starts.
-pub fn entry_at(k: usize, journal: &[u8], i: usize) -> usize
-    requires { EntryInside k i journal.now }
-    ensures { result ≡ entry_at k journal.now i }
+#[tactic(auto, using(crate::proofs::Slots::entry_inside))]
+pub fn entry_at(k: Length, journal: &[u8], i: usize) -> usize
+    requires { EntryInside k.units i journal.now }
+    ensures { result ≡ entry_at k.units journal.now i }
 {
     let layout = layout_in(journal);
     slot_at(layout.header, k, slot_of(k, journal, i))
 }
 
 // How many entries a journal holds: the number in the two bytes of its count.
+#[tactic(auto, using(crate::proofs::Versions::header_least), unfolding(crate::specs::Layout::held_of))]
 pub fn held_of(journal: &[u8]) -> usize
     requires { header_of journal.now ≤ length journal.now }
     ensures { result ≡ held_of journal.now }
@@ -175,6 +176,7 @@ pub fn held_of(journal: &[u8]) -> usize
 }
 
 // The position: the place of the next step's word.
+#[tactic(auto, unfolding(crate::specs::Layout::position_of))]
 pub fn position_of(journal: &[u8]) -> usize
     requires { header_of journal.now ≤ length journal.now }
     ensures { result ≡ position_of journal.now }
@@ -183,9 +185,10 @@ pub fn position_of(journal: &[u8]) -> usize
 }
 
 // Whether a journal has no room for a further entry.
-pub fn is_full(k: usize, journal: &[u8]) -> bool
-    requires { Headed k journal.now }
-    ensures { result ≡ is_full k journal.now }
+#[tactic(auto, unfolding(crate::specs::Layout::is_full))]
+pub fn is_full(k: Length, journal: &[u8]) -> bool
+    requires { Headed k.units journal.now }
+    ensures { result ≡ is_full k.units journal.now }
 {
     let layout = layout_in(journal);
     capacity(layout.header, k, journal.len()) <= held_of(journal)
@@ -201,75 +204,62 @@ pub fn may_name(journal: &[u8], number: usize) -> bool
 }
 
 // What stands before the count: the mark, the version and k.
-pub fn heading(version: usize, k: usize) -> [u8; 6]
-    requires { k ≤ most_length }
-    ensures { result ≡ headingOf version k }
+pub fn heading(version: usize, k: Length) -> [u8; 6]
+    ensures { result ≡ headingOf version k.units }
 {
-    let low = (version % 256) as u8;
-    let high = (version / 256 % 256) as u8;
-    [MARK[0], MARK[1], MARK[2], low, high, k as u8]
+    let [low, high, ..] = version.to_le_bytes();
+    [MARK[0], MARK[1], MARK[2], low, high, k.units as u8]
 }
 
 // Whether mark, version and k agree.
-fn has_heading(k: usize, journal: &[u8]) -> bool
-    requires { Headed k journal.now }
-    ensures { result ≡ same_bytes (take count_at journal.now) (headingOf (version_of journal.now) k) }
+#[tactic(auto, using(crate::proofs::Versions::header_least))]
+fn has_heading(k: Length, journal: &[u8]) -> bool
+    requires { Headed k.units journal.now }
+    ensures { result ≡ same_bytes (take count_at journal.now) (headingOf (version_of journal.now) k.units) }
 {
     let heading = heading(version_of(journal), k);
     parts::same_bytes(&journal[..COUNT_AT], &heading)
 }
 
 // Whether the first n entries have numbers that entries may have.
-fn are_named(k: usize, journal: &[u8], n: usize) -> bool
-    requires { Fits k n journal.now }
-    ensures { result ≡ are_named (greatest_of journal.now) (first_entries k journal.now n) }
+#[tactic(auto, using(crate::proofs::Slots::entry_inside, crate::proofs::Places::named_fail, crate::proofs::Places::named_next))]
+fn are_named(k: Length, journal: &[u8], n: usize) -> bool
+    requires { Fits k.units n journal.now }
+    ensures { result ≡ are_named (greatest_of journal.now) (first_entries k.units journal.now n) }
 {
     let layout = layout_in(journal);
-    let mut i = 0;
-    while i < n {
+    for i in 0..n {
         let at = slot_at(layout.header, k, slot_of(k, journal, i));
         if layout.greatest < journal[at] as usize {
             return false;
         }
-        i += 1;
     }
     true
 }
 
 // Whether a journal is well formed.
-fn is_journal(k: usize, journal: &[u8]) -> bool
-    requires { Headed k journal.now }
-    ensures { result ≡ is_journal k journal.now }
+#[tactic(auto, using(crate::proofs::Versions::header_least), unfolding(crate::specs::Layout::entries_of))]
+fn is_journal(k: Length, journal: &[u8]) -> bool
+    requires { Headed k.units journal.now }
+    ensures { result ≡ is_journal k.units journal.now }
 {
-    if !is_version(version_of(journal)) {
-        return false;
-    }
-    if !has_heading(k, journal) {
-        return false;
-    }
-    let held = held_of(journal);
-    if Length::MOST_WORDS < held {
-        return false;
-    }
     let layout = layout_in(journal);
-    if capacity(layout.header, k, journal.len()) < held {
-        return false;
-    }
-    are_named(k, journal, held)
+    let held = held_of(journal);
+    is_version(version_of(journal))
+        && has_heading(k, journal)
+        && held <= Length::MOST_WORDS
+        && held <= capacity(layout.header, k, journal.len())
+        && are_named(k, journal, held)
 }
 
-// The refusal of a journal: ROOM, JOURNAL or DONE.
-pub fn check_journal(k: usize, journal: &[u8]) -> u8
-    requires { k ≤ most_length }
-    ensures { result ≡ refused (journal_tests k journal.now) }
+// Whether a journal is refused: ROOM or JOURNAL.
+pub fn check_journal(k: Length, journal: &[u8]) -> Result<(), Refusal>
+    ensures { answered result ≡ refused (journal_tests k.units journal.now) }
 {
-    let room = check_room(journal);
-    if room != refusal::DONE {
-        return room;
-    }
+    check_room(journal)?;
     if is_journal(k, journal) {
-        refusal::DONE
+        Ok(())
     } else {
-        refusal::JOURNAL
+        Err(Refusal::Journal)
     }
 }

@@ -2,7 +2,7 @@
 #![tactic(auto)]
 
 ghost use Rattle.std.specs.Prelude.{◌≡◌, ◌≤◌, ◌<◌};
-ghost use Rattle.machine.specs.Size.{most_length, sizes, predicate_bytes};
+ghost use Rattle.machine.specs.Size.{sizes, predicate_bytes};
 ghost use Rattle.registers.specs.Register.{with_register, InFile};
 ghost use Rattle.registers.specs.declared.Kind.TheVariants.{Predicate};
 ghost use Rattle.registers.specs.State.{state};
@@ -11,6 +11,7 @@ ghost use Rattle.made.specs.Made.{made_bytes};
 ghost use Rattle.meaning.specs.Execute.{kind_written, lane_count, lanes_made, executed};
 ghost use Rattle.meaning.specs.Needs.{Executable};
 
+use machine::Length;
 use registers::Kind;
 use rows::{Family, MadeFamily};
 use words::Fields;
@@ -20,8 +21,7 @@ fn kind_of(family: Family) -> Kind
     ensures { result ≡ kind_written family }
 {
     match family {
-        Family::Low(_) => Kind::Vector,
-        Family::Wide(_) => Kind::Vector,
+        Family::Low(_) | Family::Wide(_) => Kind::Vector,
         Family::Made(_) => Kind::Predicate,
     }
 }
@@ -44,18 +44,18 @@ fn lanes_made(made: MadeFamily, pattern: usize, count: usize) -> usize
 }
 
 // How many lanes a word makes active, of those that a vector has.
-fn lanes_for(made: MadeFamily, f: Fields, k: usize) -> usize
-    requires { (k ≤ most_length) × (f.size < sizes) }
-    ensures { result ≡ lanes_made made f.pattern (lane_count f k) }
+fn lanes_for(made: MadeFamily, f: Fields, k: Length) -> usize
+    requires { f.size < sizes }
+    ensures { result ≡ lanes_made made f.pattern (lane_count f k.units) }
 {
     let count = registers::register_bytes(k, Kind::Vector) / lanes::width_of(f.size);
     lanes_made(made, f.pattern, count)
 }
 
 // Makes predicate register d: its bytes are lent on from the middle of the predicate file, and only they are written.
-fn make(k: usize, p: &mut [u8], d: usize, size: usize, lanes: usize)
-    requires { InFile k Predicate d p.old × (size < sizes) }
-    ensures { p.new ≡ with_register k Predicate d (made_bytes (predicate_bytes k) size lanes) p.old }
+fn make(k: Length, p: &mut [u8], d: usize, size: usize, lanes: usize)
+    requires { InFile k.units Predicate d p.old × (size < sizes) }
+    ensures { p.new ≡ with_register k.units Predicate d (made_bytes (predicate_bytes k.units) size lanes) p.old }
 {
     let at = registers::register_at(k, Kind::Predicate, d);
     let end = at + registers::register_bytes(k, Kind::Predicate);
@@ -63,13 +63,12 @@ fn make(k: usize, p: &mut [u8], d: usize, size: usize, lanes: usize)
 }
 
 // Executes a word: its destination's bytes become what its form says, from the registers as they were.
-pub fn execute(f: Fields, k: usize, z: &mut [u8], p: &mut [u8])
-    requires { Executable f k (state z.old p.old) }
-    ensures { state z.new p.new ≡ executed f k (state z.old p.old) }
+pub fn execute(f: Fields, k: Length, z: &mut [u8], p: &mut [u8])
+    requires { Executable f k.units (state z.old p.old) }
+    ensures { state z.new p.new ≡ executed f k.units (state z.old p.old) }
 {
     let form = rows::form_of(f.row);
-    let family = form.family;
-    match family {
+    match form.family {
         Family::Low(low) => {
             let bytes = reduces::low_bytes(low, form.parameters, f, k, z, p);
             registers::write_register(k, Kind::Vector, z, f.d, &bytes);

@@ -16,6 +16,13 @@ pub struct Facts {
     pub sme2p1: bool,
 }
 
+// A core that a host asks of: a vector length of k units, which may be none that there is, and facts.
+#[derive(Clone, Copy)]
+pub struct Core {
+    pub k: usize,
+    pub facts: Facts,
+}
+
 // The byte of all five.
 pub const ALL: u8 = 31;
 
@@ -55,6 +62,7 @@ fn has_bit(byte: u8, bit: u8) -> bool
 }
 
 // The facts of a byte: its five low bits in their order; higher ones do not matter.
+#[tactic(auto, unfolding(crate::specs::Facts::facts_of))]
 pub fn facts_of(byte: u8) -> Facts
     ensures { result ≡ facts_of byte }
 {
@@ -71,10 +79,11 @@ pub fn facts_of(byte: u8) -> Facts
 fn weight_of(holds: bool, bit: u8) -> u8
     ensures { Weighed holds bit result }
 {
-    if holds { bit } else { 0 }
+    u8::from(holds) * bit
 }
 
 // The byte of facts.
+#[tactic(auto, unfolding(crate::specs::Facts::byte_of))]
 pub fn byte_of(facts: Facts) -> u8
     ensures { result ≡ byte_of facts }
 {

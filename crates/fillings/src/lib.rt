@@ -22,16 +22,15 @@ const PREDICATE_SEED: u8 = 5;
 
 // Fills bytes by the rule: the first value is the seed, each next is 7 times the last and 11, modulo 251; a byte is what is left of
 // its value after division by the cut.
+#[tactic(auto, using(crate::proofs::Filling::filled_next, crate::proofs::Filling::filled_all))]
 pub fn fill(bytes: &mut [u8], seed: u8, cut: u64)
     requires { (0 < cut) × (cut ≤ byte_values) }
     ensures { bytes.new ≡ filled_from cut (length bytes.old) seed }
 {
-    let mut value = seed as u64;
-    let mut i = 0;
-    while i < bytes.len() {
-        bytes[i] = (value % cut) as u8;
+    let mut value = u64::from(seed);
+    for byte in bytes.iter_mut() {
+        *byte = (value % cut) as u8;
         value = (value * 7 + 11) % 251;
-        i += 1;
     }
 }
 
@@ -136,17 +135,16 @@ const WORDS: [u64; COUNT] = [
 ];
 
 // Fills a program with those words, one after the other and again from the first.
+#[tactic(auto, unfolding(crate::specs::Filled::filled_words))]
 pub fn fill_words(program: &mut [u8])
     ensures { program.new ≡ filled_words (words_of (length program.old)) program.old }
 {
-    let mut i = 0;
-    while i < program.len() / Length::WORD_BYTES {
+    for i in 0..program.len() / Length::WORD_BYTES {
         parts::put_number(
             program,
             i * Length::WORD_BYTES,
             Length::WORD_BYTES,
             WORDS[i % COUNT],
         );
-        i += 1;
     }
 }

@@ -24,12 +24,13 @@ use Rattle.entries.specs.Tests.{journal_tests}
 use Rattle.entries.specs.Needs.{EntryInside}
 use Rattle.appends.specs.Needs.{Append, TakeBack}
 use Rattle.entries.proofs.Versions.{greatest_is}
+use Rattle.entries.proofs.Slots.{entry_inside}
 use Rattle.entries.proofs.Formed.{length_legal, journal_checked, formed_passes}
 use Rattle.entries.proofs.Written.{full_room, last_named}
 use Rattle.journal.specs.Left.{Buffers}
 use Rattle.journal.specs.Calls.{fresh_tests, freshened, buffer_tests, empty_tests, start_refused, back_refused}
 use Rattle.journal.specs.Calls.{position_tests, position_refused, entry_tests, entry_refused, entry_answer}
-use Rattle.journal.specs.declared.Held.{Held}
+use Rattle.journal.specs.Calls.{Held}
 
 -- what fresh answers is the refusal of its tests, and with none it leaves a fresh journal
 module _ (k version : ℕ) (journal : List ℕ) where
@@ -182,6 +183,12 @@ entry_placed_in k journal i h =
       headed = record { legal = legal_most k h.position.legal; header = h.position.formed.least };
       place = omega (arith, h.inside, h.position.formed.fits);
     }
+
+-- and starts inside
+pub entry_within : (k : ℕ) (journal : List ℕ) (i : ℕ) → entry_refused k journal i ≡ 0 → entry_at k journal i < length journal
+entry_within k journal i e =
+    let placed = entry_placed_in k journal i (entry_accepted k journal i e) in
+    omega (arith, entry_inside k i journal placed.headed.header placed.place)
 
 -- what is told of it, from its place and its register's bytes
 pub entry_told_lem : (k : ℕ) (journal : List ℕ) (i : ℕ) {n at b : ℕ}

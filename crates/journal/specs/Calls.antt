@@ -1,12 +1,13 @@
 -- What fresh and the calls for a position and for an entry answer and leave, for every input; and the tests of a step before its word is read, and of back.
-use Rattle.std.specs.Prelude.{ℕ, ◌+◌, ◌≡◌, List, [], ◌∷◌, ◌++◌, eqb, leb, length}
+use Rattle.std.specs.Prelude.{Result, Ok, Err, ℕ, ◌+◌, ◌≡◌, List, [], ◌∷◌, ◌++◌, eqb, leb, length}
 use Rattle.machine.specs.Refusal.{Test, test, DONE, EMPTY, refused, length_tests, files_tests, program_tests, range_test, unless_refused, answer}
-use Rattle.machine.specs.declared.Answer.{Answer}
+use Rattle.machine.specs.Refusal.{Answer, code}
+use Rattle.machine.specs.declared.refusal.Refusal.{Refusal}
 use Rattle.programs.specs.Word.{end_tests}
 use Rattle.entries.specs.Tests.{room_tests, version_tests, journal_tests}
 use Rattle.registers.specs.Register.{register_bytes, numbered}
 use Rattle.entries.specs.Layout.{held_of, position_of, entry_at, entry_in, fresh_journal}
-use Rattle.journal.specs.declared.Held.{Held}
+use Rattle.journal.specs.declared.FoundEntry.{FoundEntry}
 use Rattle.journal.specs.Left.{Buffers, Left, left_with, leaving}
 
 -- the tests of fresh, which is told a version and goes by it alone: of what it is lent, only the size is asked
@@ -55,6 +56,13 @@ entry_tests k journal i = position_tests k journal ++ range_test (leb (held_of j
 unfoldable pub entry_refused : ℕ → List ℕ → ℕ → ℕ
 entry_refused k journal i = refused (entry_tests k journal i)
 
+-- what is told of a held entry: the call's number, its register's number, where that register's old bytes start in the journal, and how many they are
+pub record Held : Type 0 where
+  pub number : ℕ
+  pub target : ℕ
+  pub start : ℕ
+  pub bytes : ℕ
+
 -- a held entry: its register's number, where that register's old bytes start in the journal, and how many they are
 abbrev pub entry_told : ℕ → List ℕ → ℕ → Held
 entry_told k journal i =
@@ -64,6 +72,11 @@ entry_told k journal i =
 -- a refusal, and nothing told
 abbrev pub no_entry : ℕ → Held
 no_entry n = record { number = n; target = 0; start = 0; bytes = 0 }
+
+-- what is told by an outcome
+abbrev pub held_in : Result FoundEntry Refusal → Held
+held_in (Ok f) = record { number = DONE; target = f.target; start = f.start; bytes = f.bytes }
+held_in (Err r) = no_entry (code r)
 
 -- the entry, or its refusal with nothing
 abbrev pub entry_answer : ℕ → List ℕ → ℕ → Held

@@ -3,7 +3,7 @@
 -- An integer is its part above zero less its part below; modulo M the part below counts M − 1 times.
 -- Assumes nothing.
 use Rattle.std.proofs.Common.{◌≡◌, ℕ, zero, suc, ◌+◌, ◌-◌, ◌*◌, ◌/◌, ◌%◌, ◌^◌, ◌<◌, ◌≤◌, Bool, true, false, cond, not, T, ltb, ℤ, pos, negsuc, ◌+ℤ◌, ◌-ℤ◌, neg_ℤ, nat_abs, sym, refl, ap, ◌∙◌, ap₂, mod-lt, mod-eq_of_lt, suc-mul, mul_comm, one-mul, pow-suc, mul-zero, zero-add, zero-mul, mul-suc, mul-add, arith, ltb→lt, nltb→le, pow_pos, pow_mono, ltb-false, ltb-true, lt-ltb, le-leb, leb-false, leb-true}
-use native.Mathlib.Nat.{add-mod, add-mul-mod_self_left, mod-add-div, mod-add-div'}
+use native.Mathlib.Nat.{add-mod, add-mul-mod_self_left, mod-add-div'}
 use lib.Bits.{bit_xor, xor_comm, xor_shifted, xor_block, xor_zero_r}
 use lib.Pow.{pow-lt}
 use lib.IntN.{sub_ℕ, -ℤ-+ℤ_cancel}
@@ -191,15 +191,15 @@ flipped d n h = go (ltb n (2 ^ d)) refl
         ap₂ bit_xor above only ∙ xor_block d 1 1 (n - 2 ^ d) 0 (omega arith) (pow_pos d) ∙ rw (xor_zero_r (n - 2 ^ d), zero-mul (2 ^ d)) (zero-add (n - 2 ^ d))
 
 -- extension by the sign as a difference: the highest digit turned over, less what it stands for
-pub extended_by_turning : (D n r : ℕ) → 1 ≤ D → D ≤ 64 → n < 2 ^ D → r < 2 ^ 64
-    → (r + (1 * 2 ^ (D - 1)) % 2 ^ 64) % 2 ^ 64 ≡ bit_xor n ((1 * 2 ^ (D - 1)) % 2 ^ 64)
-    → r ≡ residue 64 (integer true D n)
-extended_by_turning D n r l m h small e = go (ltb n half) refl ∙ sym (extended true D 64 n m h)
+pub extended_by_turning : (D n : ℕ) → 1 ≤ D → D ≤ 64 → n < 2 ^ D
+    → (bit_xor n ((1 * 2 ^ (D - 1)) % 2 ^ 64) + (2 ^ 64 - (1 * 2 ^ (D - 1)) % 2 ^ 64)) % 2 ^ 64 ≡ residue 64 (integer true D n)
+extended_by_turning D n l m small =
+    rw (shifted, flipped (D - 1) n (omega (arith, twice))) (go (ltb n half) refl) ∙ sym (extended true D 64 n m small)
   where
     half : ℕ
     half = 2 ^ (D - 1)
 
-    shifted : (1 * 2 ^ (D - 1)) % 2 ^ 64 ≡ half
+    shifted : (1 * 2 ^ (D - 1)) % 2 ^ 64 ≡ 2 ^ (D - 1)
     shifted = rw (one-mul (2 ^ (D - 1))) (mod-eq_of_lt {n = 2 ^ (D - 1)} {m = 2 ^ 64} (pow-lt {i = D - 1} {j = 64} (omega arith)))
 
     twice : half + half ≡ 2 ^ D
@@ -208,25 +208,10 @@ extended_by_turning D n r l m h small e = go (ltb n half) refl ∙ sym (extended
     fits : 2 ^ D ≤ 2 ^ 64
     fits = pow_mono {i = D} {j = 64} m
 
-    turned : (r + half) % 2 ^ 64 ≡ cond (ltb n half) (n + half) (n - half)
-    turned = (rw shifted at e) ∙ flipped (D - 1) n (omega (arith, twice))
-
-    go : (t : Bool) → ltb n half ≡ t → r ≡ cond (is_negative D n) (n + (2 ^ 64 - 2 ^ D)) n
+    go : (t : Bool) → ltb n half ≡ t → (cond t (n + half) (n - half) + (2 ^ 64 - half)) % 2 ^ 64 ≡ cond (is_negative D n) (n + (2 ^ 64 - 2 ^ D)) n
     go true b =
         rw (lt-leb (2 ^ D) (2 * n) (omega (arith, twice, ltb-true n half b)))
-        (omega (arith, rw b at turned, twice, fits, ltb-true n half b))
+        (omega (arith, twice, fits, ltb-true n half b))
     go false b =
         rw (le-leb (2 ^ D) (2 * n) (omega (arith, twice, ltb-false n half b)))
-        (omega (arith, wraps, twice, fits, ltb-false n half b))
-      where
-        -- it wraps once, since the digits below the highest are fewer than that one stands for
-        back : n - half + 2 ^ 64 * ((r + half) / 2 ^ 64) ≡ r + half
-        back = ap (λ (k : ℕ). k + 2 ^ 64 * ((r + half) / 2 ^ 64)) (sym (rw b at turned)) ∙ mod-add-div (r + half) (2 ^ 64)
-
-        once : (q : ℕ) → n - half + 2 ^ 64 * q ≡ r + half → n - half + 2 ^ 64 ≡ r + half
-        once zero f = absurd (omega (arith, twice, ltb-false n half b))
-        once (suc zero) f = omega arith
-        once (suc (suc q)) f = absurd (omega (arith, twice, fits))
-
-        wraps : n - half + 2 ^ 64 ≡ r + half
-        wraps = once ((r + half) / 2 ^ 64) back
+        (omega (arith, twice, fits, ltb-false n half b))

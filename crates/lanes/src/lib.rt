@@ -30,11 +30,11 @@ pub fn is_active(predicate: &[u8], w: usize, e: usize) -> bool
     ensures { result ≡ active w e predicate.now }
 {
     let bit = e * w;
-    let shift = (bit % 8) as u8;
-    (predicate[bit / 8] >> shift) % 2 == 1
+    (predicate[bit / 8] >> (bit % 8)) % 2 == 1
 }
 
 // A lane's number extended to 64 bits by its sign: with the top digit turned over, what that digit stands for is taken away again.
+#[tactic(auto, using(crate::proofs::Residues::extended_by_turning))]
 pub fn extend(n: u64, w: usize, signed: bool) -> u64
     requires { LaneNumber w n }
     ensures { result ≡ residue 64 (integer signed (bits_of w) n) }
@@ -43,10 +43,11 @@ pub fn extend(n: u64, w: usize, signed: bool) -> u64
         return n;
     }
     let half = 1u64 << (8 * w - 1);
-    std::num::wrapping_sub_u64(n ^ half, half)
+    (n ^ half).wrapping_sub(half)
 }
 
 // The integer that element e of w bytes stands for, at 64 bits.
+#[tactic(auto, using(crate::proofs::Bytes::lane_lt))]
 pub fn element_at(operand: &[u8], w: usize, signed: bool, e: usize) -> u64
     requires { ElementIn w e operand.now }
     ensures { result ≡ residue 64 (element signed w operand.now e) }

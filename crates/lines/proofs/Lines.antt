@@ -12,12 +12,12 @@ use lib.ListN.{length, length-append}
 use lib.Seq.{sets-eq}
 use borrow.Author.Tests.{le-ltb}
 use Rattle.machine.specs.Refusal.{DONE, in_order, First, out_test, refused, unless_refused, answer}
-use Rattle.machine.specs.declared.Answer.{Answer}
+use Rattle.machine.specs.Refusal.{Answer}
 use Rattle.machine.proofs.Tests.{first_exactly, refused_answer, done_answer, kept}
 use Rattle.registers.specs.State.{State}
 use Rattle.words.specs.Decode.{decoded, word_tests}
-use Rattle.words.specs.declared.Decoded.{Decoded}
-use Rattle.words.specs.declared.Decoded.TheVariants.{Unknown, Undefined, Word}
+use Rattle.words.specs.Decode.{Decoded}
+use Rattle.words.specs.Decode.{Unknown, Undefined, Word}
 use Rattle.facts.specs.declared.Facts.{Facts}
 use Rattle.facts.specs.Facts.{all_facts}
 use Rattle.cores.proofs.Answers.{on_all}

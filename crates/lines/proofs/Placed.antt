@@ -14,16 +14,16 @@ use Rattle.machine.specs.Refusal.{DONE, OUT, Test, out_test, first, refused, fil
 use Rattle.machine.proofs.Tests.{first_after, first_none, none_refused, checked, unless_refused_lem}
 use Rattle.machine.proofs.Checks.{files_checked}
 use Rattle.registers.specs.State.{State, read}
-use Rattle.programs.specs.declared.Next.{Next}
+use Rattle.programs.specs.Word.{Next}
 use Rattle.programs.specs.Word.{word_at, words_of, place_tests}
 use Rattle.programs.proofs.Reading.{word_exactly}
 use Rattle.facts.specs.declared.Facts.{Facts}
 use Rattle.words.specs.Decode.{decoded, number_of, word_tests}
 use Rattle.cores.specs.Core.{decoded_on}
 use Rattle.meaning.specs.Execute.{target_of}
-use Rattle.words.specs.declared.Decoded.{Decoded}
+use Rattle.words.specs.Decode.{Decoded}
 use Rattle.words.specs.declared.Fields.{Fields}
-use Rattle.words.specs.declared.Decoded.TheVariants.{Unknown, Undefined, Word}
+use Rattle.words.specs.Decode.{Unknown, Undefined, Word}
 use Rattle.lines.specs.Line.{most_line, accepted_line, refused_line, destination_of, placed_tests, asked_word, line_refused, step_line}
 
 -- what is known where a line is not refused for what it is asked of
@@ -96,6 +96,11 @@ module _ (k : ℕ) (s : State) (program : List ℕ) (position n : ℕ) where
         own Unknown = refl
         own Undefined = refl
         own (Word f) = refl
+
+  -- the files refuse
+  pub early_files : (facts : Facts) (number r : ℕ) → r ≡ refused files → (r ≡ 0 → ⊥) → r ≡ line_refused k facts s program position number n
+  unfolding line_refused
+  early_files facts number r e h = (checked files tt refl e).refuses h
 
   -- what a line is asked of refuses
   pub early : (facts : Facts) (number r : ℕ) → r ≡ refused (placed_tests k s program position n) → (r ≡ 0 → ⊥) → r ≡ line_refused k facts s program position number n

@@ -4,10 +4,10 @@ use Rattle.parts.specs.Part.{laid}
 use Rattle.parts.specs.Text.{bytes}
 use Rattle.machine.specs.Size.{most_length, most_words, vector_bytes}
 use Rattle.machine.specs.Refusal.{DONE, SESSION, Test, out_test, files_tests, only_where, refused, unless_refused, answer}
-use Rattle.machine.specs.declared.Answer.{Answer}
+use Rattle.machine.specs.Refusal.{Answer}
 use Rattle.registers.specs.State.{State, read}
 use Rattle.programs.specs.Word.{word_at, place_tests, word_found}
-use Rattle.programs.specs.declared.Next.{Next}
+use Rattle.programs.specs.Word.{Next}
 use Rattle.facts.specs.declared.Facts.{Facts}
 use Rattle.words.specs.Decode.{decoded, word_tests, fields_of}
 use Rattle.cores.specs.Core.{decoded_on}

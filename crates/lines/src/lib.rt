@@ -2,20 +2,21 @@
 #![tactic(auto)]
 
 ghost use Rattle.std.specs.Prelude.{◌≡◌, [], ◌∷◌, ◌++◌, ◌+◌, ◌≤◌, length};
-ghost use Rattle.machine.specs.Refusal.{DONE};
+ghost use Rattle.machine.specs.Refusal.{DONE, answer_of};
 ghost use Rattle.registers.specs.State.{state, read};
+ghost use Rattle.programs.specs.Word.{next_in};
+ghost use Rattle.words.specs.Encode.{InRange};
 ghost use Rattle.meaning.specs.Execute.{target_of};
-ghost use Rattle.meaning.specs.Needs.{Executable};
 ghost use Rattle.digits.specs.Digits.{digits_in, decimal};
 ghost use Rattle.digits.specs.Put.{Put};
 ghost use Rattle.names.specs.Named.{least_out, text_of_word};
 ghost use Rattle.lines.specs.Line.{sixteen, word_hex_digits, hex_of, with_space, with_newline, lead, refused_line, accepted_line, asked_word, LineWritten, SessionLineWritten};
 
-use facts::Facts;
-use machine::{Answer, Length, refusal};
-use programs::Next;
-use registers::Kind;
-use words::{Decoded, Fields};
+use facts::Core;
+use machine::{Length, Refusal};
+use programs::FoundWord;
+use registers::files::Files;
+use words::Fields;
 
 // The base of hex, and the hex digits of a byte and of a word.
 const SIXTEEN: usize = 16;
@@ -59,9 +60,7 @@ fn put_hex(out: &mut [u8], at: usize, bytes: &[u8]) -> usize
     ensures { Put out.old at (hex_of bytes.now) out.new result }
 {
     let mut next = at;
-    let mut i = bytes.len();
-    while 0 < i {
-        i -= 1;
+    for i in (0..bytes.len()).rev() {
         next = digits::put_digits(out, next, SIXTEEN, BYTE_DIGITS, bytes[i] as usize);
     }
     next
@@ -72,8 +71,8 @@ fn put_text(out: &mut [u8], at: usize, word: u32) -> usize
     requires { at + least_out ≤ length out.old }
     ensures { Put out.old at (with_space (text_of_word word)) out.new result }
 {
-    let end = at + names::text(word, facts::all(), &mut out[at..]).value as usize;
-    digits::put(out, end, b' ')
+    let length = names::text(word, facts::all(), &mut out[at..]).unwrap_or(0);
+    digits::put(out, at + length, b' ')
 }
 
 // Writes a register in hex from a place on, and a newline.
@@ -95,14 +94,11 @@ fn put_word(out: &mut [u8], at: usize, word: u32) -> usize
 }
 
 // The register that a word writes, lent on from the file of its kind.
-fn register_written<'a>(k: usize, z: &'a [u8], p: &'a [u8], f: Fields) -> &'a [u8]
-    requires { Executable f k (state z.now p.now) }
-    ensures { result.now ≡ read k (target_of f) (state z.now p.now) }
+fn register_written<'a>(files: Files<'a>, f: Fields) -> &'a [u8]
+    requires { InRange f }
+    ensures { result.now ≡ read files.entry.k.units (target_of f) (state files.entry.z.now files.entry.p.now) }
 {
-    match executes::kind_written(f.row) {
-        Kind::Vector => registers::register(k, Kind::Vector, z, f.d),
-        Kind::Predicate => registers::register(k, Kind::Predicate, p, f.d),
-    }
+    files.register(executes::kind_written(f.row), f.d)
 }
 
 // Writes the line of an accepted step: the word's text, and the register.
@@ -110,7 +106,7 @@ fn put_accepted(out: &mut [u8], position: usize, word: u32, register: &[u8]) -> 
     requires { (length (lead position DONE) + least_out ≤ length out.old) × (length (accepted_line position word register.now) ≤ length out.old) }
     ensures { Put out.old 0 (accepted_line position word register.now) out.new result }
 {
-    let text = put_lead(out, position, refusal::DONE as usize);
+    let text = put_lead(out, position, machine::DONE as usize);
     let at = put_text(out, text, word);
     put_register(out, at, register)
 }
@@ -124,86 +120,51 @@ fn put_refused(out: &mut [u8], position: usize, number: usize, word: u32) -> usi
     put_word(out, at, word)
 }
 
-// The word that a line is asked of, in an output of n bytes; or LENGTH, FILE, PROGRAM, END or OUT, and no word.
-fn placed_word(k: usize, z: &[u8], p: &[u8], program: &[u8], position: usize, n: usize) -> Next
-    ensures { result ≡ asked_word k (state z.now p.now) program.now position n }
+// The word that a line is asked of, in an output of n bytes; or PROGRAM, END or OUT.
+fn placed_word(
+    files: Files<'_>,
+    program: &[u8],
+    position: usize,
+    n: usize,
+) -> Result<FoundWord, Refusal>
+    ensures { next_in position result ≡ asked_word files.entry.k.units (state files.entry.z.now files.entry.p.now) program.now position n }
 {
-    let files = machine::check_files(k, z, p);
-    if files != refusal::DONE {
-        return Next {
-            number: files,
-            word: 0,
-            at: position,
-        };
-    }
-    let next = programs::next_word(program, position);
-    if next.number != refusal::DONE {
-        return next;
-    }
+    let found = programs::next_word(program, position)?;
     if n < MOST_LINE {
-        return Next {
-            number: refusal::OUT,
-            word: 0,
-            at: position,
-        };
+        return Err(Refusal::Out);
     }
-    next
-}
-
-// The answer of a refusal: its number with 0.
-fn refuse(number: u8) -> Answer
-    ensures { result ≡ record { number = number; value = 0 } }
-{
-    Answer { number, value: 0 }
-}
-
-// The answer of a line that is written: its length.
-fn done(length: usize) -> Answer
-    ensures { result ≡ record { number = DONE; value = length } }
-{
-    Answer {
-        number: refusal::DONE,
-        value: length as u64,
-    }
+    Ok(found)
 }
 
 // Writes the line of the step at a position, which answered this number and left these files, at the front of the output, and
 // answers its length; bytes past it stay. Refused: LENGTH, FILE, PROGRAM, END, OUT, and UNKNOWN and UNDEFINED for a step told done whose word the core does not accept.
 pub fn write_line<'a>(
     out: &mut [u8],
-    k: usize,
-    facts: Facts,
+    core: Core,
     z: &'a [u8],
     p: &'a [u8],
     program: &[u8],
     position: usize,
     number: u64,
-) -> Answer
-    ensures { LineWritten k facts (state z.now p.now) program.now position number out.old out.new result }
+) -> Result<usize, Refusal>
+    ensures { LineWritten core.k core.facts (state z.now p.now) program.now position number out.old out.new (answer_of result) }
 {
-    let found = placed_word(k, z, p, program, position, out.len());
-    if found.number != refusal::DONE {
-        return refuse(found.number);
+    let files = Files::new(core.k, z, p)?;
+    let found = placed_word(files, program, position, out.len())?;
+    if number != machine::DONE as u64 {
+        return Ok(put_refused(out, position, number as usize, found.word));
     }
-    if number != refusal::DONE as u64 {
-        return done(put_refused(out, position, number as usize, found.word));
-    }
-    match cores::decode(found.word, facts) {
-        Decoded::Unknown => refuse(refusal::UNKNOWN),
-        Decoded::Undefined => refuse(refusal::UNDEFINED),
-        Decoded::Word(fields) => {
-            let register = register_written(k, z, p, fields);
-            done(put_accepted(out, position, found.word, register))
-        },
-    }
+    let fields = cores::decode(found.word, core.facts)?;
+    let register = register_written(files, fields);
+    Ok(put_accepted(out, position, found.word, register))
 }
 
 // Writes the line of a session that is refused at the front of the output, and answers its length. Refused: OUT.
-pub fn write_session_refusal(out: &mut [u8]) -> Answer
-    ensures { SessionLineWritten out.old out.new result }
+pub fn write_session_refusal(out: &mut [u8]) -> Result<usize, Refusal>
+    ensures { SessionLineWritten out.old out.new (answer_of result) }
 {
     if out.len() < MOST_LINE {
-        return refuse(refusal::OUT);
+        return Err(Refusal::Out);
     }
-    done(put_field(out, 0, refusal::SESSION as usize, b'\n'))
+    Ok(put_field(out, 0, Refusal::Session as usize, b'\n'))
 }

@@ -8,16 +8,15 @@ use Rattle.registers.specs.State.{State}
 use Rattle.facts.specs.Facts.{facts_of}
 use Rattle.cores.specs.Core.{decoded_on}
 use Rattle.names.specs.Named.{Named}
-use Rattle.names.proofs.Naming.{text_determined}
+use Rattle.names.proofs.Naming.{named_determined}
 use Rattle.about.specs.About.{about_answer}
 use Rattle.assembles.specs.Assembled.{Assembled}
-use Rattle.assembles.proofs.Theorems.{assemble_determined}
+use Rattle.assembles.proofs.Theorems.{assembled_determined}
 use Rattle.programs.specs.Word.{next_word}
 use Rattle.journal.specs.Left.{core_of, Buffers}
-use Rattle.journal.specs.Calls.{position_answer, entry_answer, Freshened}
-use Rattle.journal.proofs.Answers.{fresh_determined}
-use Rattle.steps.specs.Calls.{Stepped, Backed}
-use Rattle.steps.proofs.Answers.{step_determined, back_determined}
+use Rattle.journal.specs.Calls.{position_answer, entry_answer, freshened, Freshened}
+use Rattle.journal.proofs.Left.{left_determined}
+use Rattle.steps.specs.Calls.{stepped, backed, Stepped, Backed}
 use Rattle.session.specs.Layout.{session_of}
 use Rattle.lines.specs.Line.{LineWritten, step_line}
 use Rattle.lines.proofs.Lines.{line_determined}
@@ -33,17 +32,16 @@ use Rattle.ln.specs.Outside.{library_version, answer_out, answer_in, decoded_out
 use Rattle.totals.specs.Written.{PanelWritten}
 use Rattle.ln.specs.Posts.{WordDecoded, WordRead, SessionRead, RegisterPlaced, Subtotalled, PositionTold}
 use Rattle.ln.specs.Posts.{LaneRead, EntryRead, RowRead, VersionTold}
-use Rattle.totals.proofs.Written.{panel_written_determined}
 
 pub ln_decode_determined : (word facts : ℕ) (r q : LnFields) → WordDecoded word facts r → WordDecoded word facts q → r ≡ q
 ln_decode_determined word facts = one_result (decoded_out (decoded_on (facts_of facts) word))
 
 pub ln_text_determined : (word facts : ℕ) (out a b : List ℕ) (r q : LnAnswer) → Named word (facts_of facts) out a (answer_in r) → Named word (facts_of facts) out b (answer_in q) → (r ≡ q) × (a ≡ b)
 ln_text_determined word facts out a b r q x y =
-    let (number, bytes) = text_determined word (facts_of facts) out a b (answer_in r) (answer_in q) x y in (ap answer_out number, bytes)
+    let (number, bytes) = named_determined word (facts_of facts) out a b (answer_in r) (answer_in q) x y in (ap answer_out number, bytes)
 
 pub ln_assemble_determined : (text : List ℕ) (facts : ℕ) (r q : LnAnswer) → Assembled text (facts_of facts) (answer_in r) → Assembled text (facts_of facts) (answer_in q) → r ≡ q
-ln_assemble_determined text facts r q x y = ap answer_out (assemble_determined (facts_of facts) text (answer_in r) (answer_in q) x y)
+ln_assemble_determined text facts r q x y = ap answer_out (assembled_determined (facts_of facts) text (answer_in r) (answer_in q) x y)
 
 pub ln_read_word_determined : (program : List ℕ) (at : ℕ) (r q : LnWord) → WordRead program at r → WordRead program at q → r ≡ q
 ln_read_word_determined program at = one_result (word_out (next_word program at))
@@ -53,7 +51,7 @@ ln_read_session_determined bytes = one_result (session_out (session_of bytes))
 
 pub ln_fresh_determined : (k version : ℕ) (journal : List ℕ) (r q : ℕ) (a b : List ℕ) → Freshened k version journal r a → Freshened k version journal q b
     → (r ≡ q) × (a ≡ b)
-ln_fresh_determined = fresh_determined
+ln_fresh_determined k version journal r q a b x y = left_determined (freshened k version journal) r q a b x y
 
 pub ln_position_determined : (k : ℕ) (journal : List ℕ) (r q : LnAnswer) → PositionTold k journal r → PositionTold k journal q → r ≡ q
 ln_position_determined k journal = one_result (answer_out (position_answer k journal))
@@ -90,7 +88,7 @@ module _ (k : ℕ) (s : State) where
       → PanelWritten k s.z s.p source governing size out r a
       → PanelWritten k s.z s.p source governing size out q b
       → (r ≡ q) × (a ≡ b)
-  ln_panel_determined = panel_written_determined k s.z s.p
+  ln_panel_determined source governing size out r q a b x y = (one_result _ _ _ x.answered y.answered, one_result _ _ _ x.bytes y.bytes)
 
   pub ln_write_line_determined : (facts : ℕ) (program : List ℕ) (position number : ℕ) (out a b : List ℕ) (r q : LnAnswer)
       → LineWritten k (facts_of facts) s program position number out a (answer_in r)
@@ -104,7 +102,8 @@ pub ln_step_determined : (k facts : ℕ) (program : List ℕ) (b : Buffers) (r q
     → Stepped (core_of k (facts_of facts)) program b r after
     → Stepped (core_of k (facts_of facts)) program b q other
     → (r ≡ q) × (after ≡ other)
-ln_step_determined k facts = step_determined (core_of k (facts_of facts))
+ln_step_determined k facts program b r q after other x y =
+    left_determined (stepped (core_of k (facts_of facts)) program b) r q after other x.leaves y.leaves
 
 pub ln_back_determined : (k : ℕ) (b : Buffers) (r q : ℕ) (after other : Buffers) → Backed k b r after → Backed k b q other → (r ≡ q) × (after ≡ other)
-ln_back_determined = back_determined
+ln_back_determined k b r q after other x y = left_determined (backed k b) r q after other x.leaves y.leaves

@@ -1,26 +1,26 @@
 -- What a host is handed: the library's answers as records of C.
 use Rattle.std.specs.Prelude.{ℕ, Bool, true, false, not, cond, List, eqb}
 use Rattle.machine.specs.Refusal.{unless_refused}
-use Rattle.machine.specs.declared.Answer.{Answer}
+use Rattle.machine.specs.Refusal.{Answer}
 use Rattle.facts.specs.Facts.{byte_of}
 use Rattle.words.specs.Decode.{number_of, fields_of}
-use Rattle.words.specs.declared.Decoded.{Decoded}
+use Rattle.words.specs.Decode.{Decoded}
 use Rattle.words.specs.declared.Fields.{Fields}
 use Rattle.registers.specs.declared.Kind.{Kind}
 use Rattle.registers.specs.declared.Kind.TheVariants.{Vector, Predicate}
-use Rattle.programs.specs.declared.Next.{Next}
+use Rattle.programs.specs.Word.{Next}
 use Rattle.registers.specs.Register.{register_bytes, register_at}
 use Rattle.pane.specs.Drawn.{register_refused}
-use Rattle.totals.specs.declared.Lane.{Lane}
-use Rattle.journal.specs.declared.Held.{Held}
-use Rattle.about.specs.declared.About.{About}
+use Rattle.totals.specs.Lane.{Lane}
+use Rattle.journal.specs.Calls.{Held}
+use Rattle.about.specs.About.{About}
 use Rattle.ln.specs.declared.LnAnswer.{LnAnswer}
 use Rattle.ln.specs.declared.LnEntry.{LnEntry}
 use Rattle.ln.specs.declared.LnFields.{LnFields}
 use Rattle.ln.specs.declared.LnLane.{LnLane}
 use Rattle.ln.specs.declared.LnPlace.{LnPlace}
 use Rattle.ln.specs.declared.LnRowAbout.{LnRowAbout}
-use Rattle.session.specs.declared.Session.{Session}
+use Rattle.session.specs.Body.{Session}
 use Rattle.ln.specs.declared.LnSession.{LnSession}
 use Rattle.ln.specs.declared.LnWord.{LnWord}
 

@@ -2,10 +2,9 @@
 ghost use Rattle.std.specs.Prelude.{◌≡◌};
 ghost use Rattle.totals.specs.Written.{PanelWritten};
 ghost use Rattle.ln.specs.Posts.{RegisterPlaced, Subtotalled, LaneRead, EntryRead, RowRead};
-ghost use Rattle.ln.specs.Outside.{flag_for, flag_of, place_for};
+ghost use Rattle.ln.specs.Outside.{flag_of, place_for};
 
 use crate::{LnAnswer, LnEntry, LnLane, LnPlace, LnRowAbout};
-use machine::refusal;
 use registers::Kind;
 
 // The sum of the active lanes from a up to but without b, or LENGTH, FILE or RANGE.
@@ -24,11 +23,7 @@ pub extern "C" fn ln_subtotal(
     ensures { Subtotalled k z.now p.now source governing size is_signed a b result }
 {
     let signed = is_signed != 0;
-    let answer = totals::subtotal(k, z, p, source, governing, size, signed, a, b);
-    LnAnswer {
-        number: answer.number as u64,
-        value: answer.value,
-    }
+    LnAnswer::from(totals::subtotal(k, z, p, source, governing, size, signed, a, b))
 }
 
 // The panel's rows one after the other at the front of the output, or LENGTH, FILE, OUT or RANGE.
@@ -44,7 +39,7 @@ pub extern "C" fn ln_panel(
 ) -> u64
     ensures { PanelWritten k z.now p.now source governing size out.old result out.new }
 {
-    totals::write_panel(k, z, p, source, governing, size, out) as u64
+    machine::answered(totals::write_panel(k, z, p, source, governing, size, out)) as u64
 }
 
 // Where a register stands, or LENGTH, FILE or RANGE; a flag that is not 0 names a predicate register.
@@ -69,15 +64,17 @@ pub extern "C" fn ln_register_place(
 fn place_of(k: usize, z: &[u8], p: &[u8], kind: Kind, number: usize) -> LnPlace
     ensures { result ≡ place_for k z.now p.now kind number }
 {
-    let refused = pane::register_refusal(k, z, p, kind, number);
-    if refused != refusal::DONE {
-        return no_place(refused);
-    }
-    LnPlace {
-        number: refusal::DONE as u64,
-        predicate: flag_of(kind),
-        start: registers::register_at(k, kind, number) as u64,
-        bytes: registers::register_bytes(k, kind) as u64,
+    match pane::check_register(k, z, p, kind, number) {
+        Ok(files) => LnPlace {
+            number: machine::DONE as u64,
+            predicate: flag_of(kind),
+            start: registers::register_at(files.k, kind, number) as u64,
+            bytes: registers::register_bytes(files.k, kind) as u64,
+        },
+        Err(refusal) => LnPlace {
+            number: refusal.code() as u64,
+            ..LnPlace::default()
+        },
     }
 }
 
@@ -88,18 +85,6 @@ fn flag_of(kind: Kind) -> u64
     match kind {
         Kind::Vector => 0,
         Kind::Predicate => 1,
-    }
-}
-
-// A refusal with no place.
-fn no_place(number: u8) -> LnPlace
-    ensures { result ≡ record { number = number; predicate = 0; start = 0; bytes = 0 } }
-{
-    LnPlace {
-        number: number as u64,
-        predicate: 0,
-        start: 0,
-        bytes: 0,
     }
 }
 
@@ -117,21 +102,19 @@ pub extern "C" fn ln_read_lane(
 ) -> LnLane
     ensures { LaneRead k z.now p.now source predicate size is_signed lane result }
 {
-    let told = totals::read_lane(k, z, p, source, predicate, size, is_signed != 0, lane);
-    LnLane {
-        number: told.number as u64,
-        value: told.value,
-        active: flag(told.active),
-        start: told.start as u64,
-        bit: told.bit as u64,
+    match totals::read_lane(k, z, p, source, predicate, size, is_signed != 0, lane) {
+        Ok(told) => LnLane {
+            number: machine::DONE as u64,
+            value: told.value,
+            active: u64::from(told.active),
+            start: told.start as u64,
+            bit: told.bit as u64,
+        },
+        Err(refusal) => LnLane {
+            number: refusal.code() as u64,
+            ..LnLane::default()
+        },
     }
-}
-
-// A flag that is told: 1 or 0.
-fn flag(t: bool) -> u64
-    ensures { result ≡ flag_for t }
-{
-    if t { 1 } else { 0 }
 }
 
 // A journal's entry, the oldest held being 0, or LENGTH, ROOM, JOURNAL or RANGE.
@@ -139,12 +122,17 @@ fn flag(t: bool) -> u64
 pub extern "C" fn ln_read_entry(k: usize, journal: &[u8], index: usize) -> LnEntry
     ensures { EntryRead k journal.now index result }
 {
-    let told = journal::read_entry(k, journal, index);
-    LnEntry {
-        number: told.number as u64,
-        target: told.target as u64,
-        start: told.start as u64,
-        bytes: told.bytes as u64,
+    match journal::read_entry(k, journal, index) {
+        Ok(told) => LnEntry {
+            number: machine::DONE as u64,
+            target: told.target as u64,
+            start: told.start as u64,
+            bytes: told.bytes as u64,
+        },
+        Err(refusal) => LnEntry {
+            number: refusal.code() as u64,
+            ..LnEntry::default()
+        },
     }
 }
 
@@ -153,23 +141,30 @@ pub extern "C" fn ln_read_entry(k: usize, journal: &[u8], index: usize) -> LnEnt
 pub extern "C" fn ln_read_row(row: usize) -> LnRowAbout
     ensures { RowRead row result }
 {
-    let told = about::read_row(row);
-    let n_bytes = told.n_bytes;
-    let m_bytes = told.m_bytes;
-    let d_bytes = told.d_bytes;
-    LnRowAbout {
-        number: told.number as u64,
-        is_signed: flag(told.signed),
-        has_g: flag(told.has_g),
-        has_m: flag(told.has_m),
-        has_q: flag(told.has_q),
-        reads_destination: flag(told.reads_destination),
-        need: told.need as u64,
-        n_bytes,
-        m_bytes,
-        d_bytes,
-        has_n: flag(told.has_n),
-        has_pattern: flag(told.has_pattern),
-        writes_predicate: flag(told.writes_predicate),
+    match about::read_row(row) {
+        Ok(told) => {
+            let n_bytes = told.n_bytes;
+            let m_bytes = told.m_bytes;
+            let d_bytes = told.d_bytes;
+            LnRowAbout {
+                number: machine::DONE as u64,
+                is_signed: u64::from(told.signed),
+                has_g: u64::from(told.has_g),
+                has_m: u64::from(told.has_m),
+                has_q: u64::from(told.has_q),
+                reads_destination: u64::from(told.reads_destination),
+                need: told.need as u64,
+                n_bytes,
+                m_bytes,
+                d_bytes,
+                has_n: u64::from(told.has_n),
+                has_pattern: u64::from(told.has_pattern),
+                writes_predicate: u64::from(told.writes_predicate),
+            }
+        },
+        Err(refusal) => LnRowAbout {
+            number: refusal.code() as u64,
+            ..LnRowAbout::default()
+        },
     }
 }

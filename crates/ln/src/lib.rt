@@ -3,9 +3,9 @@
 #![tactic(auto)]
 
 ghost use Rattle.std.specs.Prelude.{◌≡◌};
+ghost use Rattle.machine.specs.Refusal.{answer_of};
 ghost use Rattle.registers.specs.State.{state};
 ghost use Rattle.facts.specs.Facts.{facts_of};
-ghost use Rattle.words.specs.Decode.{no_fields};
 ghost use Rattle.names.specs.Named.{Named};
 ghost use Rattle.assembles.specs.Assembled.{Assembled};
 ghost use Rattle.journal.specs.Left.{core_of, buffers_of};
@@ -13,17 +13,17 @@ ghost use Rattle.journal.specs.Calls.{Freshened};
 ghost use Rattle.steps.specs.Calls.{Stepped, Backed};
 ghost use Rattle.lines.specs.Line.{LineWritten};
 ghost use Rattle.ln.specs.Posts.{WordDecoded, WordRead, SessionRead, PositionTold, VersionTold};
-ghost use Rattle.ln.specs.Outside.{answer_in, fields_out};
+ghost use Rattle.ln.specs.Outside.{answer_in, answer_out};
 
-use machine::refusal;
-use words::Decoded;
+use facts::Core;
+use machine::Refusal;
 
 pub mod asked;
 mod held;
 
 // An answer with a value, which is 0 with a refusal.
 #[repr(C)]
-#[derive(Clone, Copy)]
+#[derive(Clone, Copy, Default)]
 pub struct LnAnswer {
     pub number: u64,
     pub value: u64,
@@ -31,7 +31,7 @@ pub struct LnAnswer {
 
 // A word's fields; one that its row does not have is 0, and all are 0 with a refusal.
 #[repr(C)]
-#[derive(Clone, Copy)]
+#[derive(Clone, Copy, Default)]
 pub struct LnFields {
     pub number: u64,
     pub row: u64,
@@ -46,7 +46,7 @@ pub struct LnFields {
 
 // Where a register stands: in which file, its first byte and how many; 0 with a refusal.
 #[repr(C)]
-#[derive(Clone, Copy)]
+#[derive(Clone, Copy, Default)]
 pub struct LnPlace {
     pub number: u64,
     pub predicate: u64,
@@ -65,7 +65,7 @@ pub struct LnWord {
 
 // A session's length and count, where its files and its program lie in the bytes, and the byte of its facts; 0 with a refusal.
 #[repr(C)]
-#[derive(Clone, Copy)]
+#[derive(Clone, Copy, Default)]
 pub struct LnSession {
     pub number: u64,
     pub k: u64,
@@ -79,7 +79,7 @@ pub struct LnSession {
 // A lane: its integer at 64 bits, whether it is active, its first byte in the vector file and its bit in the predicate register; 0 with a
 // refusal.
 #[repr(C)]
-#[derive(Clone, Copy)]
+#[derive(Clone, Copy, Default)]
 pub struct LnLane {
     pub number: u64,
     pub value: u64,
@@ -91,7 +91,7 @@ pub struct LnLane {
 // A journal's entry: its number, which is a vector register's or 32 above a predicate register's, and where that register's old bytes stand in
 // the journal and how many; 0 with a refusal.
 #[repr(C)]
-#[derive(Clone, Copy)]
+#[derive(Clone, Copy, Default)]
 pub struct LnEntry {
     pub number: u64,
     pub target: u64,
@@ -102,7 +102,7 @@ pub struct LnEntry {
 // What a row is: flags, the byte of facts of which one is enough, and for sizes 0 to 3 the bytes of the lanes that its words read and write,
 // or that a predicate which they write governs; 0 with a refusal.
 #[repr(C)]
-#[derive(Clone, Copy)]
+#[derive(Clone, Copy, Default)]
 pub struct LnRowAbout {
     pub number: u64,
     pub is_signed: u64,
@@ -117,6 +117,34 @@ pub struct LnRowAbout {
     pub has_n: u64,
     pub has_pattern: u64,
     pub writes_predicate: u64,
+}
+
+// The core that a host asks of, whose facts a byte tells.
+fn core_of(k: usize, facts: u8) -> Core
+    ensures { result ≡ record { k = k; facts = facts_of facts } }
+{
+    Core {
+        k,
+        facts: facts::facts_of(facts),
+    }
+}
+
+// An outcome with a value as a host is answered: the number, and the value, which is 0 with a refusal.
+impl From<Result<u64, Refusal>> for LnAnswer {
+    ghost from_gives = { λ outcome answer. answer ≡ answer_out (answer_of outcome) };
+
+    fn from(outcome: Result<u64, Refusal>) -> LnAnswer {
+        match outcome {
+            Ok(value) => LnAnswer {
+                number: machine::DONE as u64,
+                value,
+            },
+            Err(refusal) => LnAnswer {
+                number: refusal.code() as u64,
+                ..LnAnswer::default()
+            },
+        }
+    }
 }
 
 // The version of the header that the library is for.
@@ -136,8 +164,8 @@ pub extern "C" fn ln_decode(word: u32, facts: u8) -> LnFields
     ensures { WordDecoded word facts result }
 {
     match cores::decode(word, facts::facts_of(facts)) {
-        Decoded::Word(f) => LnFields {
-            number: refusal::DONE as u64,
+        Ok(f) => LnFields {
+            number: machine::DONE as u64,
             row: f.row as u64,
             size: f.size as u64,
             n: f.n as u64,
@@ -147,25 +175,10 @@ pub extern "C" fn ln_decode(word: u32, facts: u8) -> LnFields
             q: f.q as u64,
             pattern: f.pattern as u64,
         },
-        Decoded::Unknown => no_fields(refusal::UNKNOWN),
-        Decoded::Undefined => no_fields(refusal::UNDEFINED),
-    }
-}
-
-// A refusal with no fields.
-fn no_fields(number: u8) -> LnFields
-    ensures { result ≡ fields_out number no_fields }
-{
-    LnFields {
-        number: number as u64,
-        row: 0,
-        size: 0,
-        n: 0,
-        d: 0,
-        g: 0,
-        m: 0,
-        q: 0,
-        pattern: 0,
+        Err(refusal) => LnFields {
+            number: refusal.code() as u64,
+            ..LnFields::default()
+        },
     }
 }
 
@@ -174,11 +187,8 @@ fn no_fields(number: u8) -> LnFields
 pub extern "C" fn ln_text(word: u32, facts: u8, out: &mut [u8]) -> LnAnswer
     ensures { Named word (facts_of facts) out.old out.new (answer_in result) }
 {
-    let answer = names::text(word, facts::facts_of(facts), out);
-    LnAnswer {
-        number: answer.number as u64,
-        value: answer.value,
-    }
+    let length = names::text(word, facts::facts_of(facts), out);
+    LnAnswer::from(length.map(|length| length as u64))
 }
 
 // The word that a core accepts and that reads as a text, or TEXT.
@@ -187,10 +197,7 @@ pub extern "C" fn ln_assemble(text: &[u8], facts: u8) -> LnAnswer
     ensures { Assembled text.now (facts_of facts) (answer_in result) }
 {
     let word = assembles::assemble(text, facts::facts_of(facts));
-    LnAnswer {
-        number: word.number as u64,
-        value: word.value,
-    }
+    LnAnswer::from(word.map(|word| word as u64))
 }
 
 // The word at a place of a program with the place after it, or PROGRAM or END.
@@ -198,28 +205,40 @@ pub extern "C" fn ln_assemble(text: &[u8], facts: u8) -> LnAnswer
 pub extern "C" fn ln_read_word(program: &[u8], at: usize) -> LnWord
     ensures { WordRead program.now at result }
 {
-    let next = programs::next_word(program, at);
-    LnWord {
-        number: next.number as u64,
-        word: next.word as u64,
-        at: next.at as u64,
+    match programs::next_word(program, at) {
+        Ok(found) => LnWord {
+            number: machine::DONE as u64,
+            word: found.word as u64,
+            at: found.at as u64,
+        },
+        Err(refusal) => LnWord {
+            number: refusal.code() as u64,
+            word: 0,
+            at: at as u64,
+        },
     }
 }
 
 // Where a session's parts lie and the byte of its facts, or SESSION.
+#[tactic(auto, unfolding(facts::specs::Facts::byte_of, facts::specs::Facts::no_facts))]
 #[unsafe(no_mangle)]
 pub extern "C" fn ln_read_session(bytes: &[u8]) -> LnSession
     ensures { SessionRead bytes.now result }
 {
-    let session = session::read_session(bytes);
-    LnSession {
-        number: session.number as u64,
-        k: session.k as u64,
-        count: session.count as u64,
-        vectors: session.vectors as u64,
-        predicates: session.predicates as u64,
-        program: session.program as u64,
-        facts: facts::byte_of(session.facts) as u64,
+    match session::read_session(bytes) {
+        Ok(session) => LnSession {
+            number: machine::DONE as u64,
+            k: session.k as u64,
+            count: session.count as u64,
+            vectors: session.vectors as u64,
+            predicates: session.predicates as u64,
+            program: session.program as u64,
+            facts: facts::byte_of(session.facts) as u64,
+        },
+        Err(refusal) => LnSession {
+            number: refusal.code() as u64,
+            ..LnSession::default()
+        },
     }
 }
 
@@ -238,12 +257,9 @@ pub extern "C" fn ln_write_line<'a>(
     ensures { LineWritten k (facts_of facts) (state z.now p.now) program.now position number
         out.old out.new (answer_in result) }
 {
-    let core = facts::facts_of(facts);
-    let answer = lines::write_line(out, k, core, z, p, program, position, number);
-    LnAnswer {
-        number: answer.number as u64,
-        value: answer.value,
-    }
+    let core = core_of(k, facts);
+    let length = lines::write_line(out, core, z, p, program, position, number);
+    LnAnswer::from(length.map(|length| length as u64))
 }
 
 // A fresh journal of the version told and of the lent size, whatever the bytes that are lent; or LENGTH, ROOM or JOURNAL.
@@ -251,7 +267,7 @@ pub extern "C" fn ln_write_line<'a>(
 pub extern "C" fn ln_fresh(k: usize, version: u64, journal: &mut [u8]) -> u64
     ensures { Freshened k version journal.old result journal.new }
 {
-    journal::fresh(k, version as usize, journal) as u64
+    machine::answered(journal::fresh(k, version as usize, journal)) as u64
 }
 
 // Executes the word at the position on a core and appends its entry, or LENGTH, FILE, PROGRAM, ROOM, JOURNAL, END, UNKNOWN, UNDEFINED, JOURNAL
@@ -268,7 +284,8 @@ pub extern "C" fn ln_step(
     ensures { Stepped (core_of k (facts_of facts)) program.now (buffers_of (state z.old p.old) journal.old) result
         (buffers_of (state z.new p.new) journal.new) }
 {
-    steps::step(k, facts::facts_of(facts), z, p, program, journal) as u64
+    let core = core_of(k, facts);
+    machine::answered(steps::step(core, z, p, program, journal)) as u64
 }
 
 // Takes the last step back, or LENGTH, FILE, ROOM, JOURNAL or EMPTY.
@@ -277,7 +294,7 @@ pub extern "C" fn ln_back(k: usize, z: &mut [u8], p: &mut [u8], journal: &mut [u
     ensures { Backed k (buffers_of (state z.old p.old) journal.old)
         result (buffers_of (state z.new p.new) journal.new) }
 {
-    steps::back(k, z, p, journal) as u64
+    machine::answered(steps::back(k, z, p, journal)) as u64
 }
 
 // A journal's position, or LENGTH, ROOM or JOURNAL.
@@ -285,9 +302,6 @@ pub extern "C" fn ln_back(k: usize, z: &mut [u8], p: &mut [u8], journal: &mut [u
 pub extern "C" fn ln_position(k: usize, journal: &[u8]) -> LnAnswer
     ensures { PositionTold k journal.now result }
 {
-    let answer = journal::position(k, journal);
-    LnAnswer {
-        number: answer.number as u64,
-        value: answer.value,
-    }
+    let position = journal::position(k, journal);
+    LnAnswer::from(position.map(|position| position as u64))
 }

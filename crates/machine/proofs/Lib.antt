@@ -4,3 +4,4 @@ pub mod Legal
 pub mod Checks
 pub mod Literals
 pub mod Sizes
+pub mod Codes

@@ -1,7 +1,8 @@
 -- The refusals: their numbers, the order in which they are tested, and the tests that several calls share.
-use Rattle.std.specs.Prelude.{ℕ, zero, suc, ◌+◌, ◌*◌, ◌≡◌, ◌⊎◌, Bool, true, false, not, cond, List, [], ◌∷◌, ◌++◌, eqb, ltb}
+use Rattle.std.specs.Prelude.{Result, Ok, Err, ℕ, zero, suc, ◌+◌, ◌*◌, ◌≡◌, ◌⊎◌, Bool, true, false, not, cond, List, [], ◌∷◌, ◌++◌, eqb, ltb}
 use Rattle.parts.specs.Part.{both}
-use Rattle.machine.specs.declared.Answer.{Answer}
+use Rattle.machine.specs.declared.refusal.Refusal.{Refusal}
+use Rattle.machine.specs.declared.refusal.Refusal.TheVariants.{Length, File, Program, Room, Journal, End, Unknown, Undefined, Full, Empty, Out, Text, Range, Session}
 use Rattle.machine.specs.Size.{is_legal, vector_file, predicate_file, is_program}
 
 -- done, and the fourteen refusals
@@ -49,6 +50,28 @@ RANGE = 13
 
 abbrev pub SESSION : ℕ
 SESSION = 14
+
+-- the number of each refusal
+abbrev pub code : Refusal → ℕ
+code Length = LENGTH
+code File = FILE
+code Program = PROGRAM
+code Room = ROOM
+code Journal = JOURNAL
+code End = END
+code Unknown = UNKNOWN
+code Undefined = UNDEFINED
+code Full = FULL
+code Empty = EMPTY
+code Out = OUT
+code Text = TEXT
+code Range = RANGE
+code Session = SESSION
+
+-- the number that a call is answered with: that of done, or its refusal's
+abbrev pub answered : {X : Type 0} → Result X Refusal → ℕ
+answered (Ok x) = DONE
+answered (Err r) = code r
 
 -- a test that a call makes: its place in the order, the refusal's number, and whether its case is given
 abbrev pub Test : Type 0
@@ -116,6 +139,15 @@ range_test outside = test RANGE outside
 abbrev pub unless_refused : {X : Type 0} → ℕ → X → X → X
 unless_refused zero done other = done
 unless_refused (suc n) done other = other
+
+-- what a call with a value is answered with: the number, and the value, which is 0 with a refusal
+pub record Answer : Type 0 where
+  pub number : ℕ
+  pub value : ℕ
+
+abbrev pub answer_of : Result ℕ Refusal → Answer
+answer_of (Ok v) = record { number = DONE; value = v }
+answer_of (Err r) = record { number = code r; value = 0 }
 
 -- a call's answer: the refusal of its tests with 0, or DONE with the value
 abbrev pub answer : ℕ → ℕ → Answer

@@ -1,23 +1,42 @@
 // The machine's sizes, each named once with the length it belongs to, and the checks of what a caller lends.
 #![tactic(auto)]
 
-ghost use Rattle.std.specs.Prelude.{◌≡◌, ◌≤◌, length};
+ghost use Rattle.std.specs.Prelude.{◌≡◌, ◌≤◌, length, IfOk};
 ghost use Rattle.machine.specs.Size.{least_length, most_length, is_legal, vector_bytes, predicate_bytes, vector_file, predicate_file};
-ghost use Rattle.machine.specs.Refusal.{refused, length_tests, files_tests, program_tests};
+ghost use Rattle.machine.specs.Refusal.{answered, refused, length_tests, files_tests, program_tests};
 
-pub mod refusal;
+mod refusal;
 
-// What a call with a value answers: the number, and the value, which is 0 with a refusal.
-#[derive(Clone, Copy)]
-pub struct Answer {
-    pub number: u8,
-    pub value: u64,
+pub use refusal::Refusal;
+
+// The number of done.
+pub const DONE: u8 = 0;
+
+// The number that a call is answered with: that of done, or its refusal's.
+pub fn answered<T: Drop>(outcome: Result<T, Refusal>) -> u8
+    ensures { result ≡ answered outcome }
+{
+    match outcome {
+        Ok(_) => DONE,
+        Err(refusal) => refusal.code(),
+    }
 }
 
-// A vector length: k units of sixteen bytes.
+// A vector length: so many units of sixteen bytes, never more than the most.
 #[derive(Clone, Copy)]
 pub struct Length {
-    pub k: usize,
+    pub units: usize,
+    pub ghost within: { units ≤ most_length },
+}
+
+// Whether k is a length that the machine may have: a power of two from the least to the most.
+pub fn is_legal(k: usize) -> bool
+    ensures { result ≡ is_legal k }
+{
+    match k {
+        1 | 2 | 4 | 8 | 16 => true,
+        _ => false,
+    }
 }
 
 impl Length {
@@ -27,25 +46,30 @@ impl Length {
 
     // The least length, and the most.
     pub fn least() -> Length
-        ensures { result.k ≡ least_length }
+        ensures { result.units ≡ least_length }
     {
-        Length { k: Length::LEAST }
+        Length {
+            units: Length::LEAST,
+        }
     }
 
     pub fn most() -> Length
-        ensures { result.k ≡ most_length }
+        ensures { result.units ≡ most_length }
     {
-        Length { k: Length::MOST }
+        Length {
+            units: Length::MOST,
+        }
     }
 
-    // Whether k is a length that the machine may have: a power of two from the least to the most.
-    pub fn is_legal(self) -> bool
-        ensures { result ≡ is_legal self.k }
+    // The length of k units; or LENGTH where the machine may not have it.
+    pub fn new(k: usize) -> Result<Length, Refusal>
+        ensures number { answered result ≡ refused (length_tests k) }
+        ensures units { IfOk result (λ length. length.units ≡ k) }
     {
-        let k = self.k;
-        match k {
-            1 | 2 | 4 | 8 | 16 => true,
-            _ => false,
+        if is_legal(k) {
+            Ok(Length { units: k })
+        } else {
+            Err(Refusal::Length)
         }
     }
 
@@ -55,28 +79,25 @@ impl Length {
 
     // The bytes of a vector register.
     pub fn vector_bytes(self) -> usize
-        requires { self.k ≤ most_length }
-        ensures { result ≡ vector_bytes self.k }
+        ensures { result ≡ vector_bytes self.units }
     {
-        Length::SEGMENT_BYTES * self.k
+        Length::SEGMENT_BYTES * self.units
     }
 
     pub const SEGMENT_PREDICATE: usize = 2;
 
     // The bytes of a predicate register: a bit for each byte of a vector register.
     pub fn predicate_bytes(self) -> usize
-        requires { self.k ≤ most_length }
-        ensures { result ≡ predicate_bytes self.k }
+        ensures { result ≡ predicate_bytes self.units }
     {
-        Length::SEGMENT_PREDICATE * self.k
+        Length::SEGMENT_PREDICATE * self.units
     }
 
     pub const VECTORS: usize = 32;
 
     // The bytes of the vector file.
     pub fn vector_file(self) -> usize
-        requires { self.k ≤ most_length }
-        ensures { result ≡ vector_file self.k }
+        ensures { result ≡ vector_file self.units }
     {
         Length::VECTORS * self.vector_bytes()
     }
@@ -87,8 +108,7 @@ impl Length {
 
     // The bytes of the predicate file.
     pub fn predicate_file(self) -> usize
-        requires { self.k ≤ most_length }
-        ensures { result ≡ predicate_file self.k }
+        ensures { result ≡ predicate_file self.units }
     {
         Length::PREDICATES * self.predicate_bytes()
     }
@@ -100,44 +120,24 @@ impl Length {
     pub const MOST_WORDS: usize = 256;
 }
 
-// The refusal of a length: LENGTH or DONE.
-pub fn check_length(k: usize) -> u8
-    ensures { result ≡ refused (length_tests k) }
+// The length of k units, whose sizes both files have; or LENGTH or FILE.
+pub fn check_files(k: usize, z: &[u8], p: &[u8]) -> Result<Length, Refusal>
+    ensures number { answered result ≡ refused (files_tests k (length z.now) (length p.now)) }
+    ensures units { IfOk result (λ length. length.units ≡ k) }
 {
-    let length = Length { k };
-    if length.is_legal() {
-        refusal::DONE
+    let length = Length::new(k)?;
+    let fit = z.len() == length.vector_file() && p.len() == length.predicate_file();
+    if fit { Ok(length) } else { Err(Refusal::File) }
+}
+
+// Whether a program's bytes are refused: PROGRAM.
+pub fn check_program(program: &[u8]) -> Result<(), Refusal>
+    ensures { answered result ≡ refused (program_tests (length program.now)) }
+{
+    let whole = program.len() % Length::WORD_BYTES == 0;
+    if whole && program.len() <= Length::WORD_BYTES * Length::MOST_WORDS {
+        Ok(())
     } else {
-        refusal::LENGTH
+        Err(Refusal::Program)
     }
-}
-
-// The refusal of a length with both files: LENGTH, FILE or DONE.
-pub fn check_files(k: usize, z: &[u8], p: &[u8]) -> u8
-    ensures { result ≡ refused (files_tests k (length z.now) (length p.now)) }
-{
-    let length = Length { k };
-    if !length.is_legal() {
-        return refusal::LENGTH;
-    }
-    if z.len() != length.vector_file() {
-        return refusal::FILE;
-    }
-    if p.len() != length.predicate_file() {
-        return refusal::FILE;
-    }
-    refusal::DONE
-}
-
-// The refusal of a program's bytes: PROGRAM or DONE.
-pub fn check_program(program: &[u8]) -> u8
-    ensures { result ≡ refused (program_tests (length program.now)) }
-{
-    if program.len() % Length::WORD_BYTES != 0 {
-        return refusal::PROGRAM;
-    }
-    if Length::WORD_BYTES * Length::MOST_WORDS < program.len() {
-        return refusal::PROGRAM;
-    }
-    refusal::DONE
 }

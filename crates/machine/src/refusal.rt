@@ -1,31 +1,32 @@
-// The numbers that a call answers with: 0 for done, and one for each refusal.
+// Why a call is refused, each refusal with the number that a host is answered.
 
-pub const DONE: u8 = 0;
+ghost use Rattle.std.specs.Prelude.{◌≡◌};
+ghost use Rattle.machine.specs.Refusal.{code};
 
-pub const LENGTH: u8 = 1;
+// The refusals in the order of their numbers; done is 0.
+#[derive(Clone, Copy, PartialEq, Eq)]
+pub enum Refusal {
+    Length = 1,
+    File = 2,
+    Program = 3,
+    Room = 4,
+    Journal = 5,
+    End = 6,
+    Unknown = 7,
+    Undefined = 8,
+    Full = 9,
+    Empty = 10,
+    Out = 11,
+    Text = 12,
+    Range = 13,
+    Session = 14,
+}
 
-pub const FILE: u8 = 2;
-
-pub const PROGRAM: u8 = 3;
-
-pub const ROOM: u8 = 4;
-
-pub const JOURNAL: u8 = 5;
-
-pub const END: u8 = 6;
-
-pub const UNKNOWN: u8 = 7;
-
-pub const UNDEFINED: u8 = 8;
-
-pub const FULL: u8 = 9;
-
-pub const EMPTY: u8 = 10;
-
-pub const OUT: u8 = 11;
-
-pub const TEXT: u8 = 12;
-
-pub const RANGE: u8 = 13;
-
-pub const SESSION: u8 = 14;
+impl Refusal {
+    // The number of a refusal.
+    pub fn code(self) -> u8
+        ensures { result ≡ code self }
+    {
+        self as u8
+    }
+}

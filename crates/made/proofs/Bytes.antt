@@ -4,10 +4,10 @@
 use Prim.Native.Nat.{ℕ, ◌+◌, ◌-◌, ◌*◌, ◌/◌, ◌%◌, ◌^◌, ◌≤◌, ◌<◌}
 use mathlib.Core.Path.{◌≡◌, refl, sym, ◌∙◌, ap, ap₂}
 use mathlib.Core.Bool.{Bool, true, false}
-use native.Mathlib.Nat.{zero-add, mul_comm, mul_assoc, add-mul, mul-add-div_right, div-lt_iff_lt-mul, le-div_iff_mul-le}
+use native.Mathlib.Nat.{one-mul, suc-mul, mod-eq_of_lt, zero-add, mul_comm, mul_assoc, add-mul, mul-add-div_right, div-lt_iff_lt-mul, le-div_iff_mul-le}
 use native.Mathlib.Omega.{arith}
 use lib.Dec.{eqb, ltb}
-use lib.Pow.{pow_pos}
+use lib.Pow.{pow_pos, pow-lt}
 use borrow.Author.Tests.{lt-ltb, le-ltb, ltb-true, ltb-false, eq-eqb, ne_eqb, eqb-true, eqb-false}
 use Rattle.parts.specs.Part.{both}
 use Rattle.machine.specs.Size.{sizes}
@@ -59,6 +59,20 @@ byte_cut size count h =
     cut_bits (is_made size count) (is_made size 8) 0 8 (count * width_of size) h
     (λ i l. rw (zero-add i) (made_alike size count 8 i l (eight_fill size i (omega arith))))
     (λ i l. rw (zero-add i) (made_beyond size count i l))
+
+-- fewer lanes than a byte has are fewer bits than eight
+few : (size count : ℕ) → count < 8 / width_of size → count * width_of size < 8
+few size count h = omega (arith, (le-div_iff_mul-le (pow_pos size)).0 h, suc-mul count (width_of size), pow_pos size)
+
+-- the power of two as a shift makes it
+power : (n : ℕ) → n < 8 → (1 * 2 ^ n) % 256 ≡ 2 ^ n
+power n h = rw (one-mul (2 ^ n)) (mod-eq_of_lt (pow-lt {i = n} {j = 8} h))
+
+-- so those low digits are taken by a shift
+pub byte_below : (size count : ℕ) → count < 8 / width_of size
+    → made_byte size 8 0 % ((1 * 2 ^ (count * width_of size)) % 256) ≡ made_byte size count 0
+byte_below size count h =
+    rw (power (count * width_of size) (few size count h)) (sym (byte_cut size count (omega (arith, few size count h))))
 
 -- two sums with the same first summand are equal where the second are, and a sum is below a number where the second summand is below what is left
 sums_equal : (a b c : ℕ) → eqb (a + b) (a + c) ≡ eqb b c

@@ -1,11 +1,12 @@
 // The predicate that a word makes, written over a register byte by byte.
 #![tactic(auto)]
 
-ghost use Rattle.std.specs.Prelude.{◌≡◌, ◌-◌, ◌<◌, length, set};
+ghost use Rattle.std.specs.Prelude.{◌≡◌, ◌<◌, length};
 ghost use Rattle.machine.specs.Size.{sizes};
 ghost use Rattle.made.specs.Made.{made_byte, made_bytes};
 
 // The byte that has the first bit of each of its lanes.
+#[tactic(auto, unfolding(crate::specs::Made::made_byte))]
 fn every_lane(size: usize) -> u8
     requires { size < sizes }
     ensures { result ≡ made_byte size 8 0 }
@@ -19,6 +20,7 @@ fn every_lane(size: usize) -> u8
 }
 
 // The byte that has the first bit of each of its lanes below the count.
+#[tactic(auto, using(crate::proofs::Bytes::byte_below))]
 fn lanes_below(size: usize, count: usize) -> u8
     requires { size < sizes }
     ensures { result ≡ made_byte size count 0 }
@@ -30,31 +32,14 @@ fn lanes_below(size: usize, count: usize) -> u8
     every_lane(size) % (1u8 << (count * w))
 }
 
-// How many are left of some without others, none where the others are more.
-fn less(some: usize, others: usize) -> usize
-    ensures { result ≡ some - others }
-{
-    if some < others { 0 } else { some - others }
-}
-
-// Writes byte j of a register.
-fn put_byte(register: &mut [u8], j: usize, byte: u8)
-    requires { j < length register.old }
-    ensures { register.new ≡ set register.old j byte }
-{
-    register[j] = byte;
-}
-
 // Writes over a register the predicate that has the lanes of a size below the count active, and no other bit set.
 pub fn put_made(register: &mut [u8], size: usize, count: usize)
     requires { size < sizes }
     ensures { register.new ≡ made_bytes (length register.old) size count }
 {
     let mut left = count;
-    let mut j = 0;
-    while j < register.len() {
-        put_byte(register, j, lanes_below(size, left));
-        left = less(left, 8 >> size);
-        j += 1;
+    for byte in register.iter_mut() {
+        *byte = lanes_below(size, left);
+        left = left.saturating_sub(8 >> size);
     }
 }

@@ -1,23 +1,26 @@
 -- The rows' names: what is computed over the table, what it says of each row, and the search for the row that a text's first six bytes name.
 -- Assumes nothing.
+use Rattle.std.specs.Prelude.{Option, Some, None, not, map}
+use Rattle.std.specs.List.{position, position_or_len}
+use Rattle.std.specs.Option.{unwrap_or}
+use Rattle.std.proofs.lemmas.List.Sums.{prefix_len-le-length}
 use mathlib.Core.Path.{◌≡◌, refl, sym, ◌∙◌, ap}
 use mathlib.Core.Bool.{Bool, true, false, cond}
-use mathlib.Core.List.{List, [], ◌++◌}
-use Prim.Native.Nat.{ℕ, ◌+◌, ◌≤◌, ◌<◌}
-use native.Mathlib.Numerals.{add-one}
+use mathlib.Core.List.{List, [], ◌∷◌, ◌++◌}
+use Prim.Native.Nat.{ℕ, suc, ◌+◌, ◌≤◌, ◌<◌}
+use native.Mathlib.Nat.{zero-add, add-zero}
 use native.Mathlib.Omega.{arith}
-use lib.Dec.{eqb, leb}
-use lib.ListN.{length, get_or, take, drop, length-take, get_or-map}
-use lib.Seq.{drop-cons}
-use borrow.Author.Tests.{eqb-true, leb-true, eq-eqb, ne_eqb}
+use lib.Dec.{eqb, leb, ltb}
+use lib.ListN.{length, get_or, take}
+use borrow.Author.Tests.{ltb-false, eqb-true, leb-true, eq-eqb, ne_eqb}
+use Rattle.parts.specs.Found.{found}
 use Rattle.parts.specs.Part.{both, same_bytes}
 use Rattle.parts.specs.Text.{bytes}
-use Rattle.parts.proofs.Same.{both_left, both_right, same_true, same_not}
-use Rattle.rows.specs.Table.{name_bytes, rows, row_at, table, no_row, line_name}
+use Rattle.parts.proofs.Same.{both_left, both_right, same_true}
+use Rattle.rows.specs.Table.{name_bytes, rows, row_at, table, line_name}
 use Rattle.rows.specs.declared.Row.{Row}
 use Rattle.rows.proofs.Every.{every, at_each}
-use Rattle.rows.proofs.Rows.{at_any, row_read}
-use Rattle.names.specs.Text.{key_of, name_of, keys, key_from, row_named}
+use Rattle.names.specs.Text.{key_of, name_of, key_from, row_named}
 
 -- a row's name with its space, from its six bytes: these where they have the space, else these and a space
 abbrev pub closed : ℕ → List ℕ
@@ -56,36 +59,38 @@ name_five row h e = sym (row_good_lem row h).spaced ∙ rw (eq-eqb _ _ e)
 pub name_six : (row : ℕ) → row < rows → (get_or (key_of row) 5 0 ≡ 32 → ⊥) → name_of row ++ bytes " " ≡ key_of row ++ bytes " "
 name_six row h e = sym (row_good_lem row h).spaced ∙ rw (ne_eqb _ _ e)
 
--- fewer bytes than a key has are no key
-pub short_not : (key text : List ℕ) → name_bytes ≡ length key → length text < name_bytes → same_bytes key (take name_bytes text) ≡ false
-short_not key text size short = same_not key (take name_bytes text) (λ e. omega (arith, size, ap length e, length-take name_bytes text))
-
--- the six bytes of a line of the table at hand
-pub line_key : (lines : List Row) (i : ℕ) (outside : Row) → lines ≡ table → i < rows → line_name (get_or lines i outside) ≡ key_of i
-unfolding key_of
-line_key lines i outside is h = ap line_name (row_read lines i outside is h)
-
-pub line_size : (lines : List Row) (i : ℕ) (outside : Row) → lines ≡ table → i < rows → name_bytes ≡ length (line_name (get_or lines i outside))
-line_size lines i outside is h = sym (ap length (line_key lines i outside is h) ∙ (row_good_lem i h).key)
-
 -- two results that the contract of `row_named` allows are the same
-pub row_named_determined : (text : List ℕ) (r s : ℕ) → r ≡ row_named text → s ≡ row_named text → r ≡ s
+pub row_named_determined : (text : List ℕ) (r s : Option ℕ) → r ≡ found rows (row_named text) → s ≡ found rows (row_named text) → r ≡ s
 row_named_determined text r s p q = p ∙ sym q
 
--- the keys are a table
-key_at : (row : ℕ) → row < rows → get_or keys row [] ≡ key_of row
-unfolding key_of row_at
-key_at row h = at_any keys row [] (line_name no_row) h ∙ get_or-map line_name table row no_row
-
--- the search among the keys from a row on stops there or goes on at the next
-key_step : (i : ℕ) (bytes : List ℕ) → i < rows
-    → key_from i (drop i keys) bytes ≡ cond (same_bytes (key_of i) bytes) i (key_from (i + 1) (drop (i + 1) keys) bytes)
+-- the place of a key, counted from i, among those of some lines
+key_place : (i : ℕ) (lines : List Row) (bytes : List ℕ)
+    → key_from i (map line_name lines) bytes ≡ i + position_or_len (λ line. same_bytes (line_name line) bytes) lines
 unfolding key_from
-key_step i bytes h = rw (drop-cons keys i [] h, add-one, key_at i h)
+key_place i [] bytes = sym (add-zero i)
+key_place i (line ∷ lines) bytes = go (same_bytes (line_name line) bytes) (key_place (suc i) lines bytes)
+  where
+    go : (t : Bool) → key_from (suc i) (map line_name lines) bytes ≡ suc i + position_or_len (λ line. same_bytes (line_name line) bytes) lines
+        → cond t i (key_from (suc i) (map line_name lines) bytes) ≡ i + cond (not t) (1 + position_or_len (λ line. same_bytes (line_name line) bytes) lines) 0
+    go true e = sym (add-zero i)
+    go false e = e ∙ omega arith
 
-pub key_here : (i : ℕ) (bytes : List ℕ) → i < rows → same_bytes (key_of i) bytes ≡ true → key_from i (drop i keys) bytes ≡ i
-key_here i bytes h e = key_step i bytes h ∙ rw e
+-- so the row that is named is the line whose name a text's first six bytes are
+pub row_placed : (text : List ℕ) → position (λ (line : Row). same_bytes (line_name line) (take name_bytes text)) table ≡ found rows (row_named text)
+unfolding row_named
+row_placed text = ap (found rows) (sym (key_place 0 table (take name_bytes text) ∙ zero-add _))
 
-pub key_next : (i : ℕ) (bytes : List ℕ) → i < rows → same_bytes (key_of i) bytes ≡ false
-    → key_from i (drop i keys) bytes ≡ key_from (i + 1) (drop (i + 1) keys) bytes
-key_next i bytes h e = key_step i bytes h ∙ rw e
+-- it is the number of rows where none is found
+pub row_else : (text : List ℕ) → unwrap_or (found rows (row_named text)) rows ≡ row_named text
+unfolding row_named
+row_else text = go (row_named text) most
+  where
+    most : row_named text ≤ rows
+    most = omega (arith, key_place 0 table (take name_bytes text), prefix_len-le-length (λ (line : Row). not (same_bytes (line_name line) (take name_bytes text))) table)
+
+    go : (n : ℕ) → n ≤ rows → unwrap_or (found rows n) rows ≡ n
+    go n h = by (ltb n rows) refl
+      where
+        by : (t : Bool) → ltb n rows ≡ t → unwrap_or (cond t (Some n) None) rows ≡ n
+        by true e = refl
+        by false e = let least : rows ≤ n = ltb-false n rows e in omega arith

@@ -1,5 +1,6 @@
 -- The answer of naming in each of its cases, exactly when each is given, and that its contract allows one result.
 -- Assumes nothing.
+use Rattle.std.specs.Prelude.{Result}
 use mathlib.Core.Path.{◌≡◌, refl, sym, ◌∙◌, ap}
 use mathlib.Core.Logic.{◌↔◌}
 use mathlib.Core.Bool.{Bool, true, false}
@@ -11,25 +12,33 @@ use lib.Dec.{ltb}
 use lib.ListN.{length, take}
 use lib.Seq.{sets-eq, take_at}
 use borrow.Author.Tests.{lt-ltb, le-ltb, ltb-true, ltb-false}
-use Rattle.machine.specs.Refusal.{DONE, UNKNOWN, UNDEFINED, OUT, in_order, refused, First, answer}
-use Rattle.machine.specs.declared.Answer.{Answer}
+use Rattle.machine.specs.Refusal.{DONE, OUT, in_order, refused, First, answer}
+use Rattle.machine.specs.Refusal.{Answer, answer_of}
+use Rattle.machine.specs.declared.refusal.Refusal.{Refusal}
+use Rattle.machine.proofs.Codes.{answer_tells}
 use Rattle.machine.proofs.Tests.{first_exactly}
 use Rattle.parts.specs.Part.{laid}
 use Rattle.facts.specs.declared.Facts.{Facts}
 use Rattle.words.specs.Decode.{number_of, word_tests}
 use Rattle.words.specs.declared.Fields.{Fields}
-use Rattle.words.specs.declared.Decoded.{Decoded}
-use Rattle.words.specs.declared.Decoded.TheVariants.{Unknown, Undefined, Word}
+use Rattle.words.specs.Decode.{Decoded}
+use Rattle.words.specs.Decode.{Unknown, Undefined, Word}
 use Rattle.cores.specs.Core.{decoded_on}
 use Rattle.cores.proofs.Answers.{core_decodes}
 use Rattle.digits.specs.Put.{Put}
 use Rattle.names.specs.Text.{text_of}
-use Rattle.names.specs.Named.{least_out, text_of_word, name_tests, name_refused, refused_with, Named, most_text}
+use Rattle.names.specs.Named.{least_out, text_of_word, name_tests, name_refused, Named, most_text}
 use Rattle.names.proofs.Pieces.{word_length}
 
--- two results that the contract of `text` allows are the same
-pub text_determined : (word : ℕ) (facts : Facts) (old new new' : List ℕ) (r r' : Answer) → Named word facts old new r → Named word facts old new' r' → (r ≡ r') × (new ≡ new')
-text_determined word facts old new new' r r' a b = (a.answered ∙ sym b.answered, a.bytes ∙ sym b.bytes)
+-- two answers of naming a word are the same, and so two results that the contract of `text` allows
+pub named_determined : (word : ℕ) (facts : Facts) (old new new' : List ℕ) (r r' : Answer)
+    → Named word facts old new r → Named word facts old new' r' → (r ≡ r') × (new ≡ new')
+named_determined word facts old new new' r r' a b = (a.answered ∙ sym b.answered, a.bytes ∙ sym b.bytes)
+
+pub text_determined : (word : ℕ) (facts : Facts) (old new new' : List ℕ) (r r' : Result ℕ Refusal)
+    → Named word facts old new (answer_of r) → Named word facts old new' (answer_of r') → (r ≡ r') × (new ≡ new')
+text_determined word facts old new new' r r' a b =
+    let (same, bytes) = named_determined word facts old new new' (answer_of r) (answer_of r') a b in (answer_tells r r' same, bytes)
 
 -- the tests are in the paper's order, and each refusal comes exactly where its test holds and none before it does
 pub name_in_order : (n word : ℕ) (facts : Facts) → in_order (name_tests n word facts) ≡ true
@@ -49,20 +58,6 @@ number_of_lem n word facts h = rw (le-ltb _ _ h) (go (decoded_on facts word))
     go Unknown = refl
     go Undefined = refl
     go (Word f) = refl
-
--- a call that is refused
-refused_named : (word : ℕ) (facts : Facts) (old : List ℕ) (r : Answer) (n : ℕ) → name_refused (length old) word facts ≡ suc n → r ≡ refused_with (suc n) → Named word facts old old r
-refused_named word facts old r n e h = record { answered = rw e h; bytes = rw e refl }
-
-pub named_out : (word : ℕ) (facts : Facts) (old : List ℕ) (r : Answer) → length old < least_out → r ≡ refused_with OUT → Named word facts old old r
-named_out word facts old r short h = refused_named word facts old r 10 (refusal_out _ word facts short) h
-
-pub named_unknown : (word : ℕ) (facts : Facts) (old : List ℕ) (r : Answer) → least_out ≤ length old → decoded_on facts word ≡ Unknown → r ≡ refused_with UNKNOWN → Named word facts old old r
-named_unknown word facts old r long e h = refused_named word facts old r 6 (number_of_lem _ word facts long ∙ ap number_of e) h
-
-pub named_undefined : (word : ℕ) (facts : Facts) (old : List ℕ) (r : Answer) → least_out ≤ length old → decoded_on facts word ≡ Undefined → r ≡ refused_with UNDEFINED
-    → Named word facts old old r
-named_undefined word facts old r long e h = refused_named word facts old r 7 (number_of_lem _ word facts long ∙ ap number_of e) h
 
 -- a call that is done
 pub named_done : (word : ℕ) (facts : Facts) (old new : List ℕ) (f : Fields) (count : ℕ) → least_out ≤ length old → decoded_on facts word ≡ Word f

@@ -23,8 +23,8 @@ use Rattle.rows.specs.declared.WideFamily.TheVariants.{Pairwise, Widening}
 use Rattle.rows.specs.declared.MadeFamily.TheVariants.{Patterned, Cleared}
 use Rattle.words.specs.declared.Fields.{Fields}
 use Rattle.rows.specs.declared.Form.{Form}
-use Rattle.words.specs.declared.Decoded.{Decoded}
-use Rattle.words.specs.declared.Decoded.TheVariants.{Unknown, Undefined, Word}
+use Rattle.words.specs.Decode.{Decoded}
+use Rattle.words.specs.Decode.{Unknown, Undefined, Word}
 use Rattle.words.proofs.Decoding.{governing_below, second_below, q_below, size_in_lem, source_in, destination_in, pattern_in_lem}
 use Rattle.words.proofs.Encoding.{decoded_in_range}
 use Rattle.rows.proofs.Every.{every, at_each}

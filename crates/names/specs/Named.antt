@@ -2,11 +2,11 @@
 use Rattle.std.specs.Prelude.{◌≡◌, ℕ, List, [], ◌∷◌, ltb, length}
 use Rattle.parts.specs.Part.{laid}
 use Rattle.machine.specs.Refusal.{Test, out_test, refused, unless_refused, answer}
-use Rattle.machine.specs.declared.Answer.{Answer}
+use Rattle.machine.specs.Refusal.{Answer}
 use Rattle.facts.specs.declared.Facts.{Facts}
 use Rattle.words.specs.Decode.{decoded, word_tests}
-use Rattle.words.specs.declared.Decoded.{Decoded}
-use Rattle.words.specs.declared.Decoded.TheVariants.{Unknown, Undefined, Word}
+use Rattle.words.specs.Decode.{Decoded}
+use Rattle.words.specs.Decode.{Unknown, Undefined, Word}
 use Rattle.cores.specs.Core.{decoded_on}
 use Rattle.names.specs.Text.{text_of}
 

@@ -5,18 +5,19 @@ mod row;
 
 ghost use Rattle.std.specs.Prelude.{◌≡◌, ◌++◌, ◌≤◌, ◌<◌, length};
 ghost use Rattle.parts.specs.Text.{bytes};
+ghost use Rattle.machine.specs.Refusal.{answer_of};
 ghost use Rattle.rows.specs.Table.{rows};
 ghost use Rattle.words.specs.Encode.{InRange};
 ghost use Rattle.digits.specs.Put.{Put};
 ghost use Rattle.names.specs.Text.{name_of, text_of};
-ghost use Rattle.names.specs.Named.{least_out, refused_with, Named};
+ghost use Rattle.names.specs.Named.{least_out, Named};
 
 use digits::{put, put_bytes};
 use facts::Facts;
-use machine::{Answer, refusal};
+use machine::Refusal;
 use row::key_of;
 pub use row::row_named;
-use words::{Decoded, Fields};
+use words::Fields;
 
 // The bytes of the longest text.
 pub const MOST_TEXT: usize = 26;
@@ -69,28 +70,12 @@ fn put_text(out: &mut [u8], f: Fields) -> usize
 }
 
 // A word's text at the front of the output, and its length; bytes past it stay. Refused: OUT, UNKNOWN, UNDEFINED.
-pub fn text(word: u32, facts: Facts, out: &mut [u8]) -> Answer
-    ensures { Named word facts out.old out.new result }
+pub fn text(word: u32, facts: Facts, out: &mut [u8]) -> Result<usize, Refusal>
+    ensures { Named word facts out.old out.new (answer_of result) }
 {
     if out.len() < LEAST_OUT {
-        return refuse(refusal::OUT);
+        return Err(Refusal::Out);
     }
-    match cores::decode(word, facts) {
-        Decoded::Unknown => refuse(refusal::UNKNOWN),
-        Decoded::Undefined => refuse(refusal::UNDEFINED),
-        Decoded::Word(fields) => {
-            let count = put_text(out, fields);
-            Answer {
-                number: refusal::DONE,
-                value: count as u64,
-            }
-        },
-    }
-}
-
-// The answer of a refusal: its number with 0.
-fn refuse(number: u8) -> Answer
-    ensures { result ≡ refused_with number }
-{
-    Answer { number, value: 0 }
+    let fields = cores::decode(word, facts)?;
+    Ok(put_text(out, fields))
 }

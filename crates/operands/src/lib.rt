@@ -35,11 +35,7 @@ const LETTERS: [u8; Length::SIZES] = *b"bhsd";
 fn letter_of(size: usize) -> u8
     ensures { result ≡ letter_of size }
 {
-    if size < Length::SIZES {
-        LETTERS[size]
-    } else {
-        0
-    }
+    LETTERS.get(size).copied().unwrap_or(0)
 }
 
 // How many lanes of a size the low 8 bytes (Q = 0) or 16 bytes (Q = 1) of a register have.
@@ -80,8 +76,7 @@ pub fn put_operand(out: &mut [u8], at: usize, operand: Operand) -> usize
 {
     let number = put(out, at, operand.letter);
     let after = put_decimal(out, number, operand.number);
-    let suffix = operand.suffix;
-    put_suffix(out, after, suffix)
+    put_suffix(out, after, operand.suffix)
 }
 
 // Writes a further operand, with the comma and the space before it, where its field has digits.
@@ -123,7 +118,7 @@ fn register(letter: u8, number: usize, suffix: Suffix) -> Operand
 fn half(size: usize) -> usize
     ensures { result ≡ size - 1 }
 {
-    if size == 0 { 0 } else { size - 1 }
+    size.saturating_sub(1)
 }
 
 // The size of a widening word's source: the full width's, or that of half the width.
@@ -140,11 +135,11 @@ pub fn destination(family: Family, f: Fields) -> Operand
 {
     let size = f.size;
     match family {
-        Family::Low(low) => match low {
-            LowFamily::Reduction => register(b'd', f.d, Suffix::Plain),
-            LowFamily::Segment => register(b'v', f.d, Suffix::Lanes(lanes_of(1, size), size)),
-            LowFamily::Long => register(letter_of(size + 1), f.d, Suffix::Plain),
-        },
+        Family::Low(LowFamily::Reduction) => register(b'd', f.d, Suffix::Plain),
+        Family::Low(LowFamily::Segment) => {
+            register(b'v', f.d, Suffix::Lanes(lanes_of(1, size), size))
+        }
+        Family::Low(LowFamily::Long) => register(letter_of(size + 1), f.d, Suffix::Plain),
         Family::Wide(_) => register(b'z', f.d, Suffix::Lane(size)),
         Family::Made(_) => register(b'p', f.d, Suffix::Lane(size)),
     }
@@ -168,15 +163,15 @@ pub fn source(family: Family, full: bool, number: usize, f: Fields) -> Operand
 {
     let size = f.size;
     match family {
-        Family::Low(low) => match low {
-            LowFamily::Reduction => register(b'z', number, Suffix::Lane(size)),
-            LowFamily::Segment => register(b'z', number, Suffix::Lane(size)),
-            LowFamily::Long => register(b'v', number, Suffix::Lanes(lanes_of(f.q, size), size)),
-        },
-        Family::Wide(wide) => match wide {
-            WideFamily::Pairwise => register(b'z', number, Suffix::Lane(half(size))),
-            WideFamily::Widening => register(b'z', number, Suffix::Lane(widening_size(full, size))),
-        },
-        Family::Made(_) => register(b'z', number, Suffix::Lane(size)),
+        Family::Low(LowFamily::Reduction | LowFamily::Segment) | Family::Made(_) => {
+            register(b'z', number, Suffix::Lane(size))
+        }
+        Family::Low(LowFamily::Long) => {
+            register(b'v', number, Suffix::Lanes(lanes_of(f.q, size), size))
+        }
+        Family::Wide(WideFamily::Pairwise) => register(b'z', number, Suffix::Lane(half(size))),
+        Family::Wide(WideFamily::Widening) => {
+            register(b'z', number, Suffix::Lane(widening_size(full, size)))
+        }
     }
 }

@@ -1,16 +1,15 @@
 -- What is drawn of a register: DONE exactly where the length is legal, the files have its sizes and the number is below the count;
 -- then the part is exactly the file's bytes there, and never empty. With a refusal it is empty, at the start of the vector file.
 -- Assumes nothing.
-use Prim.Native.Nat.{ℕ, suc, ◌+◌, ◌-◌, ◌≤◌, ◌<◌}
+use Prim.Native.Nat.{ℕ, suc, ◌+◌, ◌≤◌, ◌<◌}
 use mathlib.Core.Path.{◌≡◌, refl, sym, ◌∙◌, ap}
 use mathlib.Core.Logic.{◌↔◌}
 use mathlib.Core.Bool.{true}
 use mathlib.Core.List.{List, []}
 use denote.Ref.{Bor}
-use lib.ListN.{length, take, drop, get_or}
+use lib.ListN.{length, drop, get_or}
 use lib.Seq.{get_or-take, get_or-drop}
 use borrow.Author.Tests.{leb-false, lt-leb, eq-eqb}
-use native.Mathlib.Nat.{add-sub_cancel_left}
 use native.Mathlib.Omega.{arith}
 use Rattle.machine.specs.Refusal.{DONE, First, files_tests, in_order}
 use Rattle.machine.proofs.Tests.{first_none, none_refused, first_exactly, unless_refused_lem}
@@ -19,7 +18,7 @@ use Rattle.registers.specs.declared.Kind.{Kind}
 use Rattle.registers.specs.declared.Kind.TheVariants.{Vector, Predicate}
 use Rattle.registers.specs.Register.{file_of, register_bytes, register_at, InFile}
 use Rattle.registers.proofs.Places.{in_files, length_register}
-use Rattle.pane.specs.Drawn.{register_tests, register_refused, Drawable, register_part, bytes_on, register_place}
+use Rattle.pane.specs.Drawn.{register_tests, register_refused, Drawable, register_part, register_place}
 
 -- the tests of a register that is to be drawn stand in the paper's order
 pub register_in_order : (k : ℕ) (z p : List ℕ) (kind : Kind) (r : ℕ) → in_order (register_tests k z p kind r) ≡ true
@@ -71,11 +70,3 @@ part_empty k z p kind r = (
 -- with a refusal the drawn part lies at the start of the vector file
 pub empty_place : (k : ℕ) (z p : Bor (List ℕ)) (kind : Kind) (r : ℕ) → (register_refused k z.now p.now kind r ≡ DONE → ⊥) → register_place k z p kind r ≡ z.ref_ptr
 empty_place k z p kind r h = unless_refused_lem _ _ _ h
-
--- what is drawn where nothing refuses, bytes and place: from the file, the start and the size that are the register's
-pub drawn_from : (k : ℕ) (z p file : Bor (List ℕ)) (kind : Kind) (r s n : ℕ) → register_refused k z.now p.now kind r ≡ DONE
-    → file ≡ file_of kind z p → s ≡ register_at k kind r → n ≡ register_bytes k kind
-    → (take (s + n - s) (drop s file.now) ≡ register_part k z.now p.now kind r)
-    × (bytes_on s file.ref_ptr ≡ register_place k z p kind r)
-drawn_from k z p file Vector r s n done e start size = (rw (done, start, size, e, add-sub_cancel_left), rw (done, start, e))
-drawn_from k z p file Predicate r s n done e start size = (rw (done, start, size, e, add-sub_cancel_left), rw (done, start, e))

@@ -1,15 +1,25 @@
 // Callers that keep the contracts of a register's part and of its refusal: they promise again from the contracts alone what the calls promise,
 // so a contract that is cut down is refused here. No host calls them.
-ghost use Rattle.std.specs.Prelude.{◌≡◌};
+ghost use Rattle.std.specs.Prelude.{◌≡◌, IfOk};
+ghost use Rattle.machine.specs.Refusal.{answered};
 ghost use Rattle.pane.specs.Drawn.{register_refused, register_part, register_place};
 
+use machine::Refusal;
 use registers::Kind;
+use registers::files::Files;
 
-// The refusal of a register by the call: the number.
-pub(crate) fn held_register_refusal(k: usize, z: &[u8], p: &[u8], kind: Kind, number: usize) -> u8
-    ensures { result ≡ register_refused k z.now p.now kind number }
+// The files of a register by the call, or its refusal.
+pub(crate) fn held_check_register<'a>(
+    k: usize,
+    z: &'a [u8],
+    p: &'a [u8],
+    kind: Kind,
+    number: usize,
+) -> Result<Files<'a>, Refusal>
+    ensures number { answered result ≡ register_refused k z.now p.now kind number }
+    ensures files { IfOk result (λ files. (files.k.units ≡ k) × (files.z ≡ z.entry) × (files.p ≡ p.entry)) }
 {
-    crate::register_refusal(k, z, p, kind, number)
+    crate::check_register(k, z, p, kind, number)
 }
 
 // A register's part by the call: its bytes, and where they lie.

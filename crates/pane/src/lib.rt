@@ -1,26 +1,33 @@
 // A register's bytes for drawing: the part of the file that holds it, not a copy.
 #![tactic(auto)]
 
-ghost use Rattle.std.specs.Prelude.{◌≡◌};
+ghost use Rattle.std.specs.Prelude.{◌≡◌, IfOk};
+ghost use Rattle.machine.specs.Refusal.{answered};
 ghost use Rattle.pane.specs.Drawn.{register_refused, register_part, register_place};
 
-use machine::refusal;
+use machine::Refusal;
 use registers::Kind;
+use registers::files::Files;
 
 mod held;
 
-// The refusal of a register that is to be drawn: LENGTH, FILE, RANGE or DONE.
-pub fn register_refusal(k: usize, z: &[u8], p: &[u8], kind: Kind, number: usize) -> u8
-    ensures { result ≡ register_refused k z.now p.now kind number }
+// The files of a register that is to be drawn; or LENGTH, FILE or RANGE.
+pub fn check_register<'a>(
+    k: usize,
+    z: &'a [u8],
+    p: &'a [u8],
+    kind: Kind,
+    number: usize,
+) -> Result<Files<'a>, Refusal>
+    ensures number { answered result ≡ register_refused k z.now p.now kind number }
+    ensures files { IfOk result (λ files. (files.k.units ≡ k) × (files.z ≡ z.entry) × (files.p ≡ p.entry)) }
 {
-    let files = machine::check_files(k, z, p);
-    if files != refusal::DONE {
-        return files;
+    let files = Files::new(k, z, p)?;
+    if number < registers::register_count(kind) {
+        Ok(files)
+    } else {
+        Err(Refusal::Range)
     }
-    if registers::register_count(kind) <= number {
-        return refusal::RANGE;
-    }
-    refusal::DONE
 }
 
 // The part of the vector file or of the predicate file that holds a register; with a refusal the empty part at the start of the
@@ -29,13 +36,10 @@ pub fn register<'a>(k: usize, z: &'a [u8], p: &'a [u8], kind: Kind, number: usiz
     ensures bytes { result.now ≡ register_part k z.now p.now kind number }
     ensures place { result.ref_ptr ≡ register_place k z.entry p.entry kind number }
 {
-    if register_refusal(k, z, p, kind, number) != refusal::DONE {
+    let Ok(files) = check_register(k, z, p, kind, number) else {
         return &z[..0];
-    }
-    let start = registers::register_at(k, kind, number);
-    let end = start + registers::register_bytes(k, kind);
-    match kind {
-        Kind::Vector => &z[start..end],
-        Kind::Predicate => &p[start..end],
-    }
+    };
+    let start = registers::register_at(files.k, kind, number);
+    let end = start + registers::register_bytes(files.k, kind);
+    &files.file(kind)[start..end]
 }

@@ -4,10 +4,11 @@ use Prim.Native.Nat.{ℕ, zero, suc, ◌+◌, ◌-◌, ◌*◌, ◌/◌, ◌%◌
 use mathlib.Core.Path.{◌≡◌, refl, sym, ◌∙◌, ap, ap₂}
 use mathlib.Core.List.{List, [], ◌∷◌, ◌++◌, append_assoc}
 use native.Mathlib.Nat.{pow-suc, pow-le-pow_right, mul-suc, mod-one, mod-add-div', mod-mod_of_dvd, dvd-mul_left, sub-zero, zero-sub, suc-sub-suc}
+use native.Mathlib.Numerals.{add-one}
 use native.Mathlib.Omega.{arith}
 use lib.ListN.{length, get_or, take, drop, set, replicate}
 use lib.Pow.{pow-add, field}
-use lib.Seq.{drop-cons, get_or-drop, take-suc-set, drop-set-lt}
+use lib.Seq.{drop-cons, get_or-drop, take-suc-set}
 use Rattle.parts.specs.Number.{number, bytes_of, bits_of, number_at, AreBytes}
 
 -- 256 to the w has 8w binary digits
@@ -56,23 +57,15 @@ number_before l at i w p h k =
     more = omega arith
 
 -- one byte more is written: what is written grows by the lowest of the bytes still to write
-pub bytes_next : (l : List ℕ) (at i w rest : ℕ) → i < w → at + w ≤ length l
-    → take (at + (i + 1)) (set l (at + i) (rest % 256)) ++ bytes_of (w - (i + 1)) (rest / 256) ++ drop (at + w) (set l (at + i) (rest % 256))
-    ≡ take (at + i) l ++ bytes_of (w - i) rest ++ drop (at + w) l
-bytes_next l at i w rest h k =
-    rw (next, take-suc-set l (at + i) (rest % 256) inside, drop-set-lt (at + w) l (at + i) (rest % 256) early, more)
-    (ap (λ (s : List ℕ). s ++ drop (at + w) l) (append_assoc (take (at + i) l) (rest % 256 ∷ []) (bytes_of (w - (i + 1)) (rest / 256))))
+pub bytes_next : (l : List ℕ) (i w rest : ℕ) → i < w → w ≤ length l
+    → take (i + 1) (set l i (rest % 256)) ++ bytes_of (w - (i + 1)) (rest / 256) ≡ take i l ++ bytes_of (w - i) rest
+bytes_next l i w rest h k =
+    rw (add-one i, take-suc-set l i (rest % 256) inside, more) (append_assoc (take i l) (rest % 256 ∷ []) (bytes_of (w - suc i) (rest / 256)))
   where
-    next : at + (i + 1) ≡ suc (at + i)
-    next = omega arith
-
-    inside : at + i < length l
+    inside : i < length l
     inside = omega arith
 
-    early : at + i < at + w
-    early = omega arith
-
-    more : w - i ≡ suc (w - (i + 1))
+    more : w - i ≡ suc (w - suc i)
     more = omega arith
 
 -- w bytes are w bytes

@@ -3,15 +3,14 @@
 -- Assumes nothing.
 use Prim.Native.Nat.{ℕ, ◌+◌, ◌-◌, ◌≤◌, ◌<◌}
 use mathlib.Core.Path.{◌≡◌, sym, ◌∙◌, ap}
-use mathlib.Core.List.{List, [], ◌∷◌, ◌++◌, append_assoc, append-nil}
+use mathlib.Core.List.{List, ◌++◌, append_assoc}
 use mathlib.Core.Logic.{inl, inr}
-use native.Mathlib.Nat.{add_assoc, add-zero}
-use native.Mathlib.Numerals.{add-one}
+use native.Mathlib.Nat.{add-zero}
 use native.Mathlib.Omega.{arith}
-use lib.ListN.{length, get_or, take, drop, set, length-append, length-drop, take-append-drop, drop_of_length-le}
+use lib.ListN.{length, get_or, take, drop, length-append, length-drop, take-append-drop}
 use Rattle.parts.specs.Part.{part, with_part, Outside}
 use lib.Seq.{length-take-le, take-append-le, drop-append-le, take-append-add, take_at, drop_at, take-add}
-use lib.Seq.{take-take, drop-drop, get_or-drop, get_or-take, take-length, take-suc-set, drop-set-lt}
+use lib.Seq.{take-take, drop-drop, get_or-drop, get_or-take}
 
 -- a part is what lies between two places
 pub part_between : (a n : ℕ) (l : List ℕ) → a ≤ length l → drop a (take (a + n) l) ≡ part a n l
@@ -147,17 +146,3 @@ with_same a n l =
 -- a part that is inside has its length
 pub length_part : (a n : ℕ) (l : List ℕ) → a + n ≤ length l → length (part a n l) ≡ n
 length_part a n l h = length-take-le n (drop a l) (simp length-drop (omega arith))
-
--- bytes copied over a part of as many
-pub copied_over : (a : ℕ) (e l : List ℕ) → a + length e ≤ length l → take (length e) e ++ drop (length e) (part a (length e) l) ≡ e
-copied_over a e l h =
-    ap (λ (s : List ℕ). take (length e) e ++ s) (drop_of_length-le (part a (length e) l) {i = length e} (omega (arith, length_part a (length e) l h)))
-    ∙ append-nil (take (length e) e)
-    ∙ take-length e
-
--- a part written after the element before it
-pub with_next : (a n x : ℕ) (e l : List ℕ) → a < length l → with_part (a + 1) n e (set l a x) ≡ with_part a (1 + n) (x ∷ e) l
-with_next a n x e l h =
-    ap (λ (s : List ℕ). s ++ e ++ drop (a + 1 + n) (set l a x)) (ap (λ (i : ℕ). take i (set l a x)) (add-one a) ∙ take-suc-set l a x h)
-    ∙ ap (λ (s : List ℕ). take a l ++ (x ∷ []) ++ e ++ s) (drop-set-lt (a + 1 + n) l a x (omega arith) ∙ ap (λ (i : ℕ). drop i l) (add_assoc a 1 n))
-    ∙ ap (λ (s : List ℕ). s ++ drop (a + (1 + n)) l) (append_assoc (take a l) (x ∷ []) e)

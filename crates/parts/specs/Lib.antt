@@ -1,3 +1,4 @@
 pub mod Part
 pub mod Number
 pub mod Text
+pub mod Found

@@ -11,11 +11,8 @@ fn number_by_bytes(bytes: &[u8], at: usize, w: usize) -> u64
     ensures { result ≡ number_at at w bytes.now }
 {
     let mut n: u64 = 0;
-    let mut i = w;
-    while 0 < i {
-        i -= 1;
-        let byte = bytes[at + i] as u64;
-        n = n * 256 + byte;
+    for i in (0..w).rev() {
+        n = n * 256 + u64::from(bytes[at + i]);
     }
     n
 }
@@ -40,11 +37,9 @@ fn put_by_bytes(bytes: &mut [u8], at: usize, w: usize, n: u64)
     ensures { bytes.new ≡ with_number at w n bytes.old }
 {
     let mut rest = n;
-    let mut i = 0;
-    while i < w {
-        bytes[at + i] = (rest % 256) as u8;
-        rest = rest / 256;
-        i += 1;
+    for byte in bytes[at..at + w].iter_mut() {
+        *byte = (rest % 256) as u8;
+        rest /= 256;
     }
 }
 
@@ -66,11 +61,7 @@ pub fn put_number(bytes: &mut [u8], at: usize, w: usize, n: u64)
 pub fn clear(bytes: &mut [u8])
     ensures { bytes.new ≡ replicate (length bytes.old) 0 }
 {
-    let mut i = 0;
-    while i < bytes.len() {
-        bytes[i] = 0;
-        i += 1;
-    }
+    bytes.fill(0);
 }
 
 // Sets n bytes from a place on to zero.
@@ -78,8 +69,7 @@ pub fn clear_part(bytes: &mut [u8], at: usize, n: usize)
     requires { at + n ≤ length bytes.old }
     ensures { bytes.new ≡ with_part at n (replicate n 0) bytes.old }
 {
-    let end = at + n;
-    clear(&mut bytes[at..end]);
+    clear(&mut bytes[at..at + n]);
 }
 
 // Writes some bytes over those from a place on.
@@ -87,8 +77,7 @@ pub fn overwrite(bytes: &mut [u8], at: usize, source: &[u8])
     requires { at + length source.now ≤ length bytes.old }
     ensures { bytes.new ≡ with_part at (length source.now) source.now bytes.old }
 {
-    let end = at + source.len();
-    bytes[at..end].copy_from_slice(source);
+    bytes[at..at + source.len()].copy_from_slice(source);
 }
 
 // Whether two slices have the same bytes.

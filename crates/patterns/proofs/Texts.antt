@@ -1,7 +1,7 @@
 -- The texts of the patterns: what is computed over the thirty-two, what it says of each, and the search for the pattern that a text names.
 -- Assumes nothing.
 use Prim.Native.Nat.{ℕ, zero, suc, ◌+◌, ◌≤◌, ◌<◌}
-use mathlib.Core.Path.{◌≡◌, refl, sym, ◌∙◌}
+use mathlib.Core.Path.{◌≡◌, refl, ◌∙◌, ap}
 use mathlib.Core.Bool.{Bool, true, false, cond}
 use mathlib.Core.List.{List, [], ◌∷◌}
 use native.Mathlib.Omega.{arith}
@@ -9,6 +9,9 @@ use native.Mathlib.Numerals.{add-one}
 use lib.Dec.{eqb, leb}
 use lib.ListN.{length}
 use borrow.Author.Tests.{eqb-true, leb-true}
+use Rattle.std.specs.Prelude.{Some}
+use Rattle.std.specs.List.{find, range_with_len}
+use Rattle.parts.specs.Found.{found}
 use Rattle.parts.specs.Part.{both, same_bytes}
 use Rattle.parts.proofs.Same.{both_left, both_right, same_true}
 use Rattle.digits.specs.Digits.{digit_of, digits_in, width_within, decimal_width}
@@ -44,42 +47,22 @@ module _ (n : ℕ) (h : n < patterns) where
   pub text_free : spaceless (pattern_text n) ≡ true
   text_free = both_right (leb (length (pattern_text n)) 5) _ short_free
 
--- a pattern from which the search finds what the whole search finds, among those that are left
-pub record Searched (text : List ℕ) (pattern : ℕ) : Type 0 where
-  pub left : ℕ
-  pub count : pattern + left ≡ patterns
-  pub same : named_from left pattern text ≡ pattern_named text
+-- the first of so many patterns from one on whose text it is, is the one that the search finds, and none where it finds none of them
+sought_from : (left pattern : ℕ) (text : List ℕ)
+    → find (λ n. same_bytes (pattern_text n) text) (range_with_len pattern left) ≡ found (pattern + left) (named_from left pattern text)
+unfolding named_from
+sought_from zero pattern text = grind arith
+sought_from (suc left) pattern text = rw add-one (go (same_bytes (pattern_text pattern) text) (sought_from left (suc pattern) text))
+  where
+    go : (t : Bool) → find (λ n. same_bytes (pattern_text n) text) (range_with_len (suc pattern) left) ≡ found (suc pattern + left) (named_from left (suc pattern) text)
+        → cond t (Some pattern) (find (λ n. same_bytes (pattern_text n) text) (range_with_len (suc pattern) left))
+        ≡ found (pattern + suc left) (cond t pattern (named_from left (suc pattern) text))
+    go true h = grind arith
+    go false h = h ∙ ap (λ (count : ℕ). found count (named_from left (suc pattern) text)) (omega arith)
 
-pub searched_first : (text : List ℕ) → Searched text 0
+pub pattern_sought : (text : List ℕ) → find (λ n. same_bytes (pattern_text n) text) (range_with_len 0 patterns) ≡ found patterns (pattern_named text)
 unfolding pattern_named
-searched_first text = record { left = patterns; count = refl; same = refl }
-
--- the search stops at the pattern whose text it is, goes on at the next, and stops past the last
-pub searched_here : {text : List ℕ} {pattern : ℕ} → Searched text pattern → pattern < patterns → same_bytes (pattern_text pattern) text ≡ true
-    → pattern ≡ pattern_named text
-unfolding named_from
-searched_here {text} {pattern} s h e = go s.left s.count s.same
-  where
-    go : (left : ℕ) → pattern + left ≡ patterns → named_from left pattern text ≡ pattern_named text → pattern ≡ pattern_named text
-    go zero count same = same
-    go (suc left) count same = sym (rw e) ∙ same
-
-pub searched_next : {text : List ℕ} {pattern : ℕ} → Searched text pattern → pattern < patterns → same_bytes (pattern_text pattern) text ≡ false
-    → Searched text (pattern + 1)
-unfolding named_from
-searched_next {text} {pattern} s h e = go s.left s.count s.same
-  where
-    go : (left : ℕ) → pattern + left ≡ patterns → named_from left pattern text ≡ pattern_named text → Searched text (pattern + 1)
-    go zero count same = absurd (omega arith)
-    go (suc left) count same = record { left = left; count = omega arith; same = rw add-one (sym (rw e) ∙ same) }
-
-pub searched_all : {text : List ℕ} {pattern : ℕ} → Searched text pattern → patterns ≤ pattern → pattern ≡ pattern_named text
-unfolding named_from
-searched_all {text} {pattern} s h = go s.left s.count s.same
-  where
-    go : (left : ℕ) → pattern + left ≡ patterns → named_from left pattern text ≡ pattern_named text → pattern ≡ pattern_named text
-    go zero count same = same
-    go (suc left) count same = absurd (omega arith)
+pattern_sought text = sought_from patterns 0 text
 
 -- what the search finds among so many patterns is one whose text it is; past them it finds none
 named_from_lem : (left pattern : ℕ) (text : List ℕ) → named_from left pattern text < pattern + left → pattern_text (named_from left pattern text) ≡ text

@@ -2,6 +2,7 @@
 #![tactic(auto)]
 
 ghost use Rattle.std.specs.Prelude.{◌≡◌, ◌++◌, ◌+◌, ◌≤◌, ◌<◌, length};
+ghost use Rattle.parts.specs.Found.{found};
 ghost use Rattle.parts.specs.Part.{same_bytes};
 ghost use Rattle.digits.specs.Digits.{decimal};
 ghost use Rattle.digits.specs.Put.{Put};
@@ -100,16 +101,9 @@ fn is_text_of(text: &[u8], pattern: usize) -> bool
     parts::same_bytes(&name[..count], text)
 }
 
-// The pattern whose text some bytes are, or the number of patterns where they are of none.
-pub fn pattern_named(text: &[u8]) -> usize
-    ensures { result ≡ pattern_named text.now }
+// The pattern whose text some bytes are; none where they are of none.
+pub fn pattern_named(text: &[u8]) -> Option<usize>
+    ensures { result ≡ found patterns (pattern_named text.now) }
 {
-    let mut pattern = 0;
-    while pattern < PATTERNS {
-        if is_text_of(text, pattern) {
-            return pattern;
-        }
-        pattern += 1;
-    }
-    pattern
+    (0..PATTERNS).find(|&pattern| is_text_of(text, pattern))
 }

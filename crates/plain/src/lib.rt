@@ -1,16 +1,16 @@
 // A plain walk on a core: words decoded and executed in turn, and the journal that they must leave, laid out here without the journal's code.
 #![tactic(auto)]
 
-ghost use Rattle.std.specs.Prelude.{◌≤◌};
-ghost use Rattle.machine.specs.Size.{most_length};
-ghost use Rattle.registers.specs.Register.{file_of, InFile};
+ghost use Rattle.std.specs.Prelude.{◌<◌};
+ghost use Rattle.registers.specs.Register.{register_count};
 ghost use Rattle.registers.specs.State.{state};
 ghost use Rattle.meaning.specs.Needs.{Executable};
 
 use facts::Facts;
-use machine::{Length, refusal};
+use machine::Length;
 use registers::Kind;
-use words::{Decoded, Fields};
+use registers::files::Files;
+use words::Fields;
 
 // The mark, and where the version, the length and the count stand.
 const MARK: [u8; VERSION_AT] = *b"LNJ";
@@ -30,14 +30,14 @@ pub const NUMBER: usize = 1;
 const FIRST_PREDICATE: usize = 32;
 
 // Lays out the header of a journal of a version that holds so many entries, with zeros after it; false where the journal has no room for a header.
-fn lay_header(journal: &mut [u8], version: u64, k: usize, count: usize) -> bool {
+fn lay_header(journal: &mut [u8], version: u64, k: Length, count: usize) -> bool {
     if journal.len() < HEADER {
         return false;
     }
     parts::clear(journal);
     parts::overwrite(journal, 0, &MARK);
     parts::put_number(journal, VERSION_AT, LENGTH_AT - VERSION_AT, version);
-    parts::put_number(journal, LENGTH_AT, COUNT_AT - LENGTH_AT, k as u64);
+    parts::put_number(journal, LENGTH_AT, COUNT_AT - LENGTH_AT, k.units as u64);
     parts::put_number(journal, COUNT_AT, HEADER - COUNT_AT, count as u64);
     true
 }
@@ -53,26 +53,24 @@ fn lay_entry(entry: &mut [u8], number: usize, old: &[u8]) -> bool {
     true
 }
 
-// Lays out the entry of register d of a kind, as it stands in the file of that kind.
-fn lay_target(k: usize, kind: Kind, z: &[u8], p: &[u8], d: usize, entry: &mut [u8]) -> bool
-    requires { InFile k kind d (file_of kind z.now p.now) }
+// Lays out the entry of register d of a kind, as it stands in its file.
+fn lay_target(files: Files<'_>, kind: Kind, d: usize, entry: &mut [u8]) -> bool
+    requires { d < register_count kind }
 {
-    match kind {
-        Kind::Vector => lay_entry(entry, d, registers::register(k, Kind::Vector, z, d)),
-        Kind::Predicate => lay_entry(
-            entry,
-            FIRST_PREDICATE + d,
-            registers::register(k, Kind::Predicate, p, d),
-        ),
-    }
+    let number = match kind {
+        Kind::Vector => d,
+        Kind::Predicate => FIRST_PREDICATE + d,
+    };
+    lay_entry(entry, number, files.register(kind, d))
 }
 
 // Lays out the entry of the register that a word writes, and executes the word; false where the entry has no room.
-fn walk_fields(f: Fields, k: usize, z: &mut [u8], p: &mut [u8], entry: &mut [u8]) -> bool
-    requires { Executable f k (state z.old p.old) }
+fn walk_fields(f: Fields, k: Length, z: &mut [u8], p: &mut [u8], entry: &mut [u8]) -> bool
+    requires { Executable f k.units (state z.old p.old) }
 {
     let kind = executes::kind_written(f.row);
-    if !lay_target(k, kind, z, p, f.d, entry) {
+    let files = Files { k, z, p };
+    if !lay_target(files, kind, f.d, entry) {
         return false;
     }
     executes::execute(f, k, z, p);
@@ -88,53 +86,44 @@ fn walk_word(
     word: u32,
     entry: &mut [u8],
 ) -> bool {
-    if machine::check_files(k, z, p) != refusal::DONE {
+    let Ok(k) = machine::check_files(k, z, p) else {
         return false;
-    }
-    let decoded = cores::decode(word, facts);
-    match decoded {
-        Decoded::Unknown => false,
-        Decoded::Undefined => false,
-        Decoded::Word(f) => walk_fields(f, k, z, p, entry),
-    }
+    };
+    let Ok(f) = cores::decode(word, facts) else {
+        return false;
+    };
+    walk_fields(f, k, z, p, entry)
 }
 
 // Walks so many words of a program, and lays out their entries after the header; false where a word or the room for its entry is missing.
 fn walk_words(
-    k: usize,
+    k: Length,
     facts: Facts,
     z: &mut [u8],
     p: &mut [u8],
     program: &[u8],
     journal: &mut [u8],
     steps: usize,
-) -> bool
-    requires { k ≤ most_length }
-{
-    let bytes = NUMBER + Length { k }.vector_bytes();
+) -> bool {
+    let bytes = NUMBER + k.vector_bytes();
     let mut at = HEADER;
-    let mut i = 0;
-    while i < steps {
+    for i in 0..steps {
         let end = at + bytes;
-        if journal.len() < end {
-            return false;
-        }
-        if program.len() / Length::WORD_BYTES <= i {
+        if journal.len() < end || program.len() / Length::WORD_BYTES <= i {
             return false;
         }
         let word = programs::word_at(program, i);
-        if !walk_word(k, facts, z, p, word, &mut journal[at..end]) {
+        if !walk_word(k.units, facts, z, p, word, &mut journal[at..end]) {
             return false;
         }
         at = end;
-        i += 1;
     }
     true
 }
 
 // Walks so many words of a program, and lays out the journal of a version that they leave.
 pub fn walk(
-    k: usize,
+    k: Length,
     version: u64,
     facts: Facts,
     z: &mut [u8],
@@ -142,8 +131,6 @@ pub fn walk(
     program: &[u8],
     journal: &mut [u8],
     steps: usize,
-) -> bool
-    requires { k ≤ most_length }
-{
+) -> bool {
     lay_header(journal, version, k, steps) && walk_words(k, facts, z, p, program, journal, steps)
 }

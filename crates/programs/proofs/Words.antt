@@ -6,8 +6,7 @@ use mathlib.Core.List.{List}
 use Rattle.machine.specs.Size.{word_bytes}
 use Rattle.parts.proofs.Numbers.{number_below}
 use Rattle.parts.specs.Number.{AreBytes}
-use Rattle.programs.specs.declared.Next.{Next}
-use Rattle.programs.specs.Word.{word_at, word_found}
+use Rattle.programs.specs.Word.{Next, word_at, word_found}
 
 -- a word is below 2^32
 pub word_lt : (program : List ℕ) (i : ℕ) → AreBytes program → word_at program i < 2 ^ 32

@@ -3,17 +3,16 @@
 
 ghost use Rattle.std.specs.Prelude.{◌≡◌, ◌+◌, ◌*◌, ◌≤◌, length};
 ghost use Rattle.machine.specs.Size.{word_bytes};
-ghost use Rattle.programs.specs.Word.{word_at, next_word};
+ghost use Rattle.programs.specs.Word.{word_at, next_in, next_word};
 
-use machine::{Length, refusal};
+use machine::{Length, Refusal};
 
 mod held;
 pub mod reader;
 
-// What stands at a place of a program: the number, the word, which is 0 with a refusal, and the place that comes next.
+// The word at a place of a program, and the place that comes next.
 #[derive(Clone, Copy)]
-pub struct Next {
-    pub number: u8,
+pub struct FoundWord {
     pub word: u32,
     pub at: usize,
 }
@@ -26,28 +25,16 @@ pub fn word_at(program: &[u8], i: usize) -> u32
     parts::number_at(program, i * Length::WORD_BYTES, Length::WORD_BYTES) as u32
 }
 
-// The word at a place with the next place; or PROGRAM or END, no word and the place unmoved.
-pub fn next_word(program: &[u8], at: usize) -> Next
-    ensures { result ≡ next_word program.now at }
+// The word at a place with the next place; or PROGRAM or END.
+pub fn next_word(program: &[u8], at: usize) -> Result<FoundWord, Refusal>
+    ensures { next_in at result ≡ next_word program.now at }
 {
-    let number = machine::check_program(program);
-    if number != refusal::DONE {
-        return Next {
-            number,
-            word: 0,
-            at,
-        };
-    }
+    machine::check_program(program)?;
     if program.len() / Length::WORD_BYTES <= at {
-        return Next {
-            number: refusal::END,
-            word: 0,
-            at,
-        };
+        return Err(Refusal::End);
     }
-    Next {
-        number: refusal::DONE,
+    Ok(FoundWord {
         word: word_at(program, at),
         at: at + 1,
-    }
+    })
 }

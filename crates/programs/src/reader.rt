@@ -1,6 +1,8 @@
 // A program read word by word, through a reader that holds the lent program and its place.
 ghost use Rattle.std.specs.Prelude.{◌≡◌};
-ghost use Rattle.programs.specs.Read.{reader_at, read_next};
+ghost use Rattle.programs.specs.Read.{reader_at, read_in, read_next};
+
+use machine::Refusal;
 
 // A lent program and the place in it from which the next word is read.
 #[derive(Clone, Copy)]
@@ -9,10 +11,9 @@ pub struct Reader<'a> {
     pub at: usize,
 }
 
-// What a reader answers: the number, the word, which is 0 with a refusal, and the reader moved on, or with a refusal unmoved.
+// A word that a reader has read, and the reader moved on.
 #[derive(Clone, Copy)]
-pub struct Read<'a> {
-    pub number: u8,
+pub struct Taken<'a> {
     pub word: u32,
     pub reader: Reader<'a>,
 }
@@ -25,18 +26,18 @@ impl<'a> Reader<'a> {
         Reader { program, at: 0 }
     }
 
-    // The next word with the reader moved on; or PROGRAM or END, no word and the reader unmoved.
-    pub fn next(self) -> Read<'a>
-        ensures { result ≡ read_next self.entry }
+    // The next word with the reader moved on; or PROGRAM or END, and the reader is where it was.
+    pub fn next(self) -> Result<Taken<'a>, Refusal>
+        ensures { read_in self.entry result ≡ read_next self.entry }
     {
-        let next = crate::next_word(self.program, self.at);
-        Read {
-            number: next.number,
-            word: next.word,
-            reader: Reader {
-                program: self.program,
-                at: next.at,
-            },
-        }
+        let found = crate::next_word(self.program, self.at)?;
+        let reader = Reader {
+            at: found.at,
+            ..self
+        };
+        Ok(Taken {
+            word: found.word,
+            reader,
+        })
     }
 }

@@ -16,6 +16,7 @@ ghost use Rattle.meaning.specs.Execute.{written_for};
 ghost use Rattle.meaning.specs.Needs.{ExecutableAs};
 ghost use Rattle.reduces.specs.Needs.{LongFront};
 
+use machine::Length;
 use registers::Kind;
 use rows::{LowFamily, Parameters};
 use words::Fields;
@@ -52,12 +53,12 @@ pub fn low_bytes(
     low: LowFamily,
     parameters: Parameters,
     f: Fields,
-    k: usize,
+    k: Length,
     z: &[u8],
     p: &[u8],
 ) -> [u8; 16]
-    requires { ExecutableAs (Low low) f k (state z.now p.now) × (parameters ≡ (form_of f.row).parameters) }
-    ensures { result ≡ padded segment_bytes (written_for f k (state z.now p.now)) }
+    requires { ExecutableAs (Low low) f k.units (state z.now p.now) × (parameters ≡ (form_of f.row).parameters) }
+    ensures { result ≡ padded segment_bytes (written_for f k.units (state z.now p.now)) }
 {
     let signed = parameters.signed;
     let w = lanes::width_of(f.size);

@@ -2,11 +2,12 @@
 #![tactic(auto)]
 
 ghost use Rattle.std.specs.Prelude.{◌≡◌, ◌≤◌, ◌<◌, length};
-ghost use Rattle.machine.specs.Size.{most_length};
 ghost use Rattle.registers.specs.Register.{register_from, register_count, entry_number, numbered, register_bytes, register_at, register_of};
 ghost use Rattle.registers.specs.Register.{with_register, padded, InFile};
 
 use machine::Length;
+
+pub mod files;
 
 // The two kinds of register.
 #[derive(Clone, Copy)]
@@ -26,6 +27,7 @@ pub fn register_count(kind: Kind) -> usize
 }
 
 // The kind of the register that a number names in an entry.
+#[tactic(auto, unfolding(crate::specs::Register::numbered))]
 pub fn kind_numbered(number: usize) -> Kind
     ensures { result ≡ (numbered number).kind }
 {
@@ -37,17 +39,15 @@ pub fn kind_numbered(number: usize) -> Kind
 }
 
 // The number, among the registers of its kind, of the register that a number names in an entry.
+#[tactic(auto, unfolding(crate::specs::Register::numbered))]
 pub fn register_numbered(number: usize) -> usize
     ensures { result ≡ (numbered number).number }
 {
-    if Length::VECTORS <= number {
-        number - Length::VECTORS
-    } else {
-        number
-    }
+    number.checked_sub(Length::VECTORS).unwrap_or(number)
 }
 
 // The number that an entry has for register r of a kind.
+#[tactic(auto, unfolding(crate::specs::Register::entry_number))]
 pub fn entry_number(kind: Kind, r: usize) -> usize
     requires { r < register_count kind }
     ensures { result ≡ entry_number (register_from kind r) }
@@ -59,33 +59,30 @@ pub fn entry_number(kind: Kind, r: usize) -> usize
 }
 
 // The bytes of a register of a kind.
-pub fn register_bytes(k: usize, kind: Kind) -> usize
-    requires { k ≤ most_length }
-    ensures { result ≡ register_bytes k kind }
+pub fn register_bytes(k: Length, kind: Kind) -> usize
+    ensures { result ≡ register_bytes k.units kind }
 {
-    let length = Length { k };
     match kind {
-        Kind::Vector => length.vector_bytes(),
-        Kind::Predicate => length.predicate_bytes(),
+        Kind::Vector => k.vector_bytes(),
+        Kind::Predicate => k.predicate_bytes(),
     }
 }
 
 // Where register r of a kind starts in its file.
-pub fn register_at(k: usize, kind: Kind, r: usize) -> usize
-    requires { (k ≤ most_length) × (r < register_count kind) }
-    ensures { result ≡ register_at k kind r }
+pub fn register_at(k: Length, kind: Kind, r: usize) -> usize
+    requires { r < register_count kind }
+    ensures { result ≡ register_at k.units kind r }
 {
     r * register_bytes(k, kind)
 }
 
 // The bytes of register r of a kind, lent on from its file.
-pub fn register(k: usize, kind: Kind, file: &[u8], r: usize) -> &[u8]
-    requires { InFile k kind r file.now }
-    ensures { result.now ≡ register_of k kind r file.now }
+pub fn register(k: Length, kind: Kind, file: &[u8], r: usize) -> &[u8]
+    requires { InFile k.units kind r file.now }
+    ensures { result.now ≡ register_of k.units kind r file.now }
 {
     let at = register_at(k, kind, r);
-    let end = at + register_bytes(k, kind);
-    &file[at..end]
+    &file[at..at + register_bytes(k, kind)]
 }
 
 // Writes bytes at the front of a register and zeros above them.
@@ -93,18 +90,17 @@ pub fn write(destination: &mut [u8], source: &[u8])
     requires { length source.now ≤ length destination.old }
     ensures { destination.new ≡ padded (length destination.old) source.now }
 {
-    let n = source.len();
-    parts::overwrite(destination, 0, source);
-    parts::clear(&mut destination[n..]);
+    let (front, above) = destination.split_at_mut(source.len());
+    front.copy_from_slice(source);
+    above.fill(0);
 }
 
 // Writes bytes at the front of register r of a kind and zeros above them: the register's bytes are lent on from the middle of its
 // file, and only they are written.
-pub fn write_register(k: usize, kind: Kind, file: &mut [u8], r: usize, source: &[u8])
-    requires { InFile k kind r file.old × (length source.now ≤ register_bytes k kind) }
-    ensures { file.new ≡ with_register k kind r (padded (register_bytes k kind) source.now) file.old }
+pub fn write_register(k: Length, kind: Kind, file: &mut [u8], r: usize, source: &[u8])
+    requires { InFile k.units kind r file.old × (length source.now ≤ register_bytes k.units kind) }
+    ensures { file.new ≡ with_register k.units kind r (padded (register_bytes k.units kind) source.now) file.old }
 {
     let at = register_at(k, kind, r);
-    let end = at + register_bytes(k, kind);
-    write(&mut file[at..end], source);
+    write(&mut file[at..at + register_bytes(k, kind)], source);
 }

@@ -1,14 +1,15 @@
 -- Where `row_of` stops: at the first row that matches, or past the last.
 -- Assumes nothing.
 use mathlib.Core.Path.{◌≡◌, refl, sym, ◌∙◌, ap}
-use mathlib.Core.Bool.{Bool, true, false, cond}
+use mathlib.Core.Bool.{Bool, true, false, not, cond}
 use mathlib.Core.List.{List, [], ◌∷◌}
 use Prim.Native.Nat.{ℕ, zero, suc, ◌+◌, ◌≤◌, ◌<◌}
 use native.Mathlib.Nat.{add-zero, zero-add}
-use native.Mathlib.Numerals.{add-one}
 use native.Mathlib.Omega.{arith}
-use lib.ListN.{length, get_or, drop}
-use lib.Seq.{drop-cons}
+use lib.ListN.{length, get_or, get_or-eq_default}
+use Rattle.std.specs.List.{position, position_or_len}
+use Rattle.std.proofs.lemmas.List.Sums.{prefix_len-le-length}
+use Rattle.parts.specs.Found as sought
 use Rattle.rows.specs.Table.{table, no_row, rows, row_at, row_of, matches, place_from}
 use Rattle.rows.specs.declared.Row.{Row}
 
@@ -23,18 +24,32 @@ pub row_read : (lines : List Row) (i : ℕ) (outside : Row) → lines ≡ table 
 unfolding row_at
 row_read lines i outside is h = ap (λ (l : List Row). get_or l i outside) is ∙ at_any table i outside no_row h
 
--- the place counted from i on, at a row that matches and at one that does not
-place_at : (i word : ℕ) → i < rows
-    → place_from i (drop i table) word ≡ cond (matches (row_at i) word) i (place_from (i + 1) (drop (i + 1) table) word)
-unfolding place_from row_at
-place_at i word h = rw (drop-cons table i no_row h, add-one)
+-- past the last row the table has the row that stands for none
+pub row_past : (i : ℕ) → rows ≤ i → no_row ≡ row_at i
+unfolding row_at
+row_past i h = sym (get_or-eq_default table no_row h)
 
-pub place_here : (i word : ℕ) → i < rows → matches (row_at i) word ≡ true → place_from i (drop i table) word ≡ i
-place_here i word h e = place_at i word h ∙ rw e
+-- the place counted from k on is k and the place among the rows, and `row_of` finds the place in the table
+place_counted : (rs : List Row) (k word : ℕ) → place_from k rs word ≡ k + position_or_len (λ r. matches r word) rs
+unfolding place_from
+place_counted [] k word = grind arith
+place_counted (r ∷ rs) k word = go (matches r word) (place_counted rs (suc k) word)
+  where
+    go : (t : Bool) → place_from (suc k) rs word ≡ suc k + position_or_len (λ s. matches s word) rs
+        → cond t k (place_from (suc k) rs word) ≡ k + cond (not t) (1 + position_or_len (λ s. matches s word) rs) 0
+    go true h = omega arith
+    go false h = omega arith
 
-pub place_next : (i word : ℕ) → i < rows → matches (row_at i) word ≡ false
-    → place_from i (drop i table) word ≡ place_from (i + 1) (drop (i + 1) table) word
-place_next i word h e = place_at i word h ∙ rw e
+pub row_sought : (lines : List Row) (word : ℕ) → lines ≡ table → position (λ r. matches r word) lines ≡ sought.found rows (row_of word)
+unfolding row_of
+row_sought lines word is =
+    ap (position (λ r. matches r word)) is
+    ∙ ap (sought.found rows) (sym (place_counted table 0 word ∙ zero-add _))
+
+-- no place past the number of rows is found
+pub row_of_within : (word : ℕ) → row_of word ≤ rows
+unfolding row_of
+row_of_within word = omega (arith, place_counted table 0 word, prefix_len-le-length (λ r. not (matches r word)) table)
 
 -- the search stops at a row that matches, or past the last
 pub found : (rs : List Row) (k word : ℕ)

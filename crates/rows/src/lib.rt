@@ -1,8 +1,9 @@
 // The table: a line for each word, its form, and the row that a word is of.
 #![tactic(auto)]
 
-ghost use Rattle.std.specs.Prelude.{◌≡◌};
-ghost use Rattle.rows.specs.Table.{table, row_at, matches, row_of, form_with, form_for, form_of, family_of};
+ghost use Rattle.std.specs.Prelude.{◌≡◌, position};
+ghost use Rattle.parts.specs.Found.{found};
+ghost use Rattle.rows.specs.Table.{table, rows, row_at, matches, row_of, form_with, form_for, form_of, family_of};
 
 // What a family writes: the low bytes of V with zeros above, every lane of Z, or a predicate.
 #[derive(Clone, Copy)]
@@ -173,9 +174,7 @@ pub fn row_at(i: usize) -> Row
 {
     let lines = table();
     let mut row = NO_ROW;
-    let mut j = ROWS;
-    while 0 < j {
-        j -= 1;
+    for j in (0..ROWS).rev() {
         if i <= j {
             row = lines[j];
         }
@@ -218,9 +217,8 @@ fn form_for(operation: Operation, signed: bool, top: bool) -> Form
 pub fn form_of(i: usize) -> Form
     ensures { result ≡ form_of i }
 {
-    let row = row_at(i);
-    let operation = row.3;
-    form_for(operation, row.4, row.5)
+    let Row(_, _, _, operation, signed, top) = row_at(i);
+    form_for(operation, signed, top)
 }
 
 // The family of the row at a place.
@@ -237,17 +235,16 @@ fn matches(row: Row, word: u32) -> bool
     word & row.1 == row.2
 }
 
-// The place of the row that matches a word, or the number of rows where none does.
-pub fn row_of(word: u32) -> usize
-    ensures { result ≡ row_of word }
+// The place of the first of some rows that matches a word; none where none does.
+fn first_match(lines: &[Row], word: u32) -> Option<usize>
+    ensures { result ≡ position (λ row. matches row word) lines.now }
 {
-    let lines = table();
-    let mut i = 0;
-    while i < ROWS {
-        if matches(lines[i], word) {
-            return i;
-        }
-        i += 1;
-    }
-    i
+    lines.iter().position(|row| matches(*row, word))
+}
+
+// The place of the row that matches a word; none where none does.
+pub fn row_of(word: u32) -> Option<usize>
+    ensures { result ≡ found rows (row_of word) }
+{
+    first_match(&table(), word)
 }

@@ -2,8 +2,10 @@
 #![tactic(auto)]
 
 ghost use Rattle.std.specs.Prelude.{◌≡◌, ◌≤◌, length, get_or, drop};
+ghost use Rattle.machine.specs.Size.{sizes};
+ghost use Rattle.parts.specs.Found.{found};
 ghost use Rattle.operands.specs.Operands.{letters};
-ghost use Rattle.scans.specs.Scanned.{PastSpace, worth, is_digit, number_in, from_end, place_of, size_in, full_digits, q_in};
+ghost use Rattle.scans.specs.Scanned.{PastSpace, worth, number_in, from_end, place_of, size_in, full_digits, q_in};
 
 use machine::Length;
 
@@ -14,7 +16,7 @@ const FULL_DIGITS: [u8; Length::SIZES] = *b"6842";
 fn byte_at(text: &[u8], at: usize) -> u8
     ensures { result ≡ get_or text.now at 0 }
 {
-    if at < text.len() { text[at] } else { 0 }
+    text.get(at).copied().unwrap_or(0)
 }
 
 // The byte that is k places before the end; 0 where there is none.
@@ -33,31 +35,17 @@ pub fn past_space(text: &[u8], from: usize) -> usize
     requires { from ≤ length text.now }
     ensures { PastSpace text.now from result }
 {
-    let mut at = from;
-    while at < text.len() {
-        if text[at] == b' ' {
-            return at + 1;
-        }
-        at += 1;
+    match text[from..].iter().position(|&b| b == b' ') {
+        Some(k) => from + k + 1,
+        None => text.len(),
     }
-    at
 }
 
 // What a byte is worth as a decimal digit.
 fn worth(b: u8) -> usize
     ensures { result ≡ worth b }
 {
-    if b < b'0' { 0 } else { (b - b'0') as usize }
-}
-
-// Whether a byte is a decimal digit.
-fn is_digit(b: u8) -> bool
-    ensures { result ≡ is_digit b }
-{
-    if b < b'0' {
-        return false;
-    }
-    b <= b'9'
+    usize::from(b.saturating_sub(b'0'))
 }
 
 // The number of one or two digits after the letter at a place.
@@ -67,28 +55,29 @@ pub fn number_at(text: &[u8], at: usize) -> usize
 {
     let first = byte_at(text, at + 1);
     let second = byte_at(text, at + 2);
-    if is_digit(second) {
-        return worth(first) * 10 + worth(second);
+    if second.is_ascii_digit() {
+        worth(first) * 10 + worth(second)
+    } else {
+        worth(first)
     }
-    worth(first)
 }
 
-// The place of a letter among those of the sizes.
-fn size_of(letter: u8) -> usize
-    ensures { result ≡ place_of letter letters }
+// The place of a letter among those of the sizes; none where it is not there.
+fn size_of(letter: u8) -> Option<usize>
+    ensures { result ≡ found sizes (place_of letter letters) }
 {
     match letter {
-        b'b' => 0,
-        b'h' => 1,
-        b's' => 2,
-        b'd' => 3,
-        _ => Length::SIZES,
+        b'b' => Some(0),
+        b'h' => Some(1),
+        b's' => Some(2),
+        b'd' => Some(3),
+        _ => None,
     }
 }
 
-// The size that the letter k places before a text's end tells.
-pub fn size_in(text: &[u8], k: usize) -> usize
-    ensures { result ≡ size_in text.now k }
+// The size that the letter k places before a text's end tells; none where it is no size's.
+pub fn size_in(text: &[u8], k: usize) -> Option<usize>
+    ensures { result ≡ found sizes (size_in text.now k) }
 {
     size_of(byte_from_end(text, k))
 }
@@ -97,20 +86,12 @@ pub fn size_in(text: &[u8], k: usize) -> usize
 pub fn q_in(size: usize, text: &[u8]) -> usize
     ensures { result ≡ q_in size text.now }
 {
-    if byte_from_end(text, 2) == full_digit(size) {
-        1
-    } else {
-        0
-    }
+    usize::from(byte_from_end(text, 2) == full_digit(size))
 }
 
 // The last digit of how many lanes of a size 16 bytes have; 0 past the last size.
 fn full_digit(size: usize) -> u8
     ensures { result ≡ get_or full_digits size 0 }
 {
-    if size < Length::SIZES {
-        FULL_DIGITS[size]
-    } else {
-        0
-    }
+    FULL_DIGITS.get(size).copied().unwrap_or(0)
 }

@@ -1,6 +1,6 @@
 -- Bytes read from a place on: SESSION is given exactly where they have no body there, and else its parts have the sizes of the length.
 -- Assumes nothing.
-use mathlib.Core.Path.{◌≡◌, refl, sym, ◌∙◌}
+use mathlib.Core.Path.{◌≡◌, refl, ◌∙◌}
 use mathlib.Core.Bool.{Bool, true, false}
 use mathlib.Core.Logic.{◌⊎◌, inl, inr}
 use mathlib.Core.List.{List, ◌++◌}
@@ -16,7 +16,7 @@ use Rattle.facts.specs.Facts.{all_byte}
 use Rattle.machine.specs.Size.{most_words, is_legal, word_bytes}
 use Rattle.machine.specs.Refusal.{DONE, SESSION, refused, files_tests, program_tests}
 use Rattle.machine.proofs.Legal.{legal_exactly}
-use Rattle.session.specs.declared.Session.{Session}
+use Rattle.session.specs.Body.{Session}
 use Rattle.session.specs.Body.{facts_bytes, facts_place, files_place, length_in, count_in, facts_in, predicates_at, program_at, end_at, body_end, is_sized, is_body}
 use Rattle.session.specs.Body.{body_placed, no_session, body_of, vector_part, predicate_part, program_part, IsBody, Parts}
 
@@ -89,6 +89,15 @@ module _ (start : ℕ) (told : Bool) (bytes : List ℕ) where
   pub body_none : is_body start told bytes ≡ false → body_of start told bytes ≡ no_session
   unfolding body_of
   body_none e = rw e
+
+  -- so a body that is refused is none
+  pub body_refused : ((body_of start told bytes).number ≡ DONE → ⊥) → body_of start told bytes ≡ no_session
+  unfolding body_of
+  body_refused h = go (is_body start told bytes) refl
+    where
+      go : (t : Bool) → is_body start told bytes ≡ t → body_of start told bytes ≡ no_session
+      go true e = absurd (h (rw e))
+      go false e = rw e
 
   -- SESSION is given exactly where there is no body
   pub body_exactly : (((body_of start told bytes).number ≡ DONE) × IsBody start told bytes)

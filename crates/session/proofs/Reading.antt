@@ -1,6 +1,7 @@
 -- Bytes read as a session: SESSION is given exactly where they are none, and else the parts have the sizes of the length and the last ends with
 -- the bytes.
 -- Assumes nothing.
+use Rattle.std.specs.Prelude.{Result}
 use mathlib.Core.Path.{◌≡◌, refl, sym, ◌∙◌, ap}
 use mathlib.Core.Bool.{Bool, true, false, cond}
 use mathlib.Core.Logic.{◌⊎◌, inl, inr, ⊎_elim}
@@ -18,9 +19,11 @@ use Rattle.facts.proofs.Bytes.{all_of_byte, byte_of_facts}
 use Rattle.machine.specs.Size.{is_among}
 use Rattle.machine.specs.Refusal.{DONE, SESSION, in_order}
 use Rattle.machine.proofs.Legal.{among_true, among_given}
-use Rattle.machine.proofs.Tests.{one_result}
-use Rattle.session.specs.declared.Session.{Session}
-use Rattle.session.specs.Body.{body_end, is_body, body_placed, no_session, body_of, IsBody, Parts}
+use Rattle.machine.specs.declared.refusal.Refusal.{Refusal}
+use Rattle.machine.proofs.Codes.{told_tells}
+use Rattle.session.specs.declared.FoundSession.{FoundSession}
+use Rattle.session.specs.Body.{Session}
+use Rattle.session.specs.Body.{session_in, body_end, is_body, body_placed, no_session, body_of, IsBody, Parts}
 use Rattle.session.specs.Layout.{mark, first_format, facts_format, versions, tells_facts, length_at, facts_at, session_mark, session_version, session_tells}
 use Rattle.session.specs.Layout.{most_session, is_headed, is_session, session_tests, session_of, IsSession}
 use Rattle.session.proofs.Bodies.{files_least, files_most, body_tested, body_passes, body_placed_lem, body_none, body_parts}
@@ -161,5 +164,18 @@ second_has_byte bytes s second =
     ∙ mod-eq_of_lt (omega (arith, s.told second))
 
 -- two results that the contract of `read_session` allows are the same
-pub read_session_determined : (bytes : List ℕ) (r r' : Session) → r ≡ session_of bytes → r' ≡ session_of bytes → r ≡ r'
-read_session_determined bytes r r' a b = one_result (session_of bytes) r r' a b
+pub read_session_determined : (bytes : List ℕ) (r r' : Result FoundSession Refusal) → session_in r ≡ session_of bytes → session_in r' ≡ session_of bytes → r ≡ r'
+read_session_determined bytes r r' a b =
+    told_tells session_in (λ s. s.number) back (λ s. refl) (λ e. refl) (λ s. refl) r r' (a ∙ sym b)
+  where
+    back : Session → FoundSession
+    back s =
+        record {
+          k = s.k;
+          count = s.count;
+          vectors = s.vectors;
+          predicates = s.predicates;
+          program = s.program;
+          end = s.end;
+          facts = s.facts;
+        }

@@ -1,13 +1,14 @@
 -- What stands past a mark and a version: k, the word count, a byte of facts where they are told, then the vector file, the predicate file and
 -- the words. It starts at a place that is given, and more may follow it. Where no facts are told, they are all.
-use Rattle.std.specs.Prelude.{ℕ, ◌+◌, ◌*◌, ◌-◌, ◌≤◌, ◌≡◌, Bool, true, cond, List, leb, length, get_or}
+use Rattle.std.specs.Prelude.{Result, Ok, Err, ℕ, ◌+◌, ◌*◌, ◌-◌, ◌≤◌, ◌≡◌, Bool, true, cond, List, leb, length, get_or}
 use Rattle.parts.specs.Part.{both, part}
 use Rattle.parts.specs.Number.{number_at}
 use Rattle.facts.specs.declared.Facts.{Facts}
 use Rattle.facts.specs.Facts.{facts_of, all_byte, no_facts}
 use Rattle.machine.specs.Size.{is_legal, Legal, vector_file, predicate_file, word_bytes, most_words, Files}
-use Rattle.machine.specs.Refusal.{DONE, SESSION}
-use Rattle.session.specs.declared.Session.{Session}
+use Rattle.machine.specs.Refusal.{DONE, SESSION, code}
+use Rattle.machine.specs.declared.refusal.Refusal.{Refusal}
+use Rattle.session.specs.declared.FoundSession.{FoundSession}
 
 -- the bytes of k, of the count and of the facts
 abbrev pub length_bytes : ℕ
@@ -64,6 +65,36 @@ is_body start told bytes =
     both (leb (facts_place start) (length bytes))
     (both (is_sized (length_in start bytes) (count_in start bytes))
     (both (leb (body_end start told bytes) (length bytes)) (leb (facts_in start told bytes) all_byte)))
+
+-- what bytes say: the number, a length, a count, where the vector file, the predicate file and the program start and the program ends, and
+-- a core's facts; with a refusal zeros and none
+pub record Session : Type 0 where
+  pub number : ℕ
+  pub k : ℕ
+  pub count : ℕ
+  pub vectors : ℕ
+  pub predicates : ℕ
+  pub program : ℕ
+  pub end : ℕ
+  pub facts : Facts
+
+-- it, of a session that was found, and of an outcome
+abbrev pub session_told : FoundSession → Session
+session_told s =
+    record {
+      number = DONE;
+      k = s.k;
+      count = s.count;
+      vectors = s.vectors;
+      predicates = s.predicates;
+      program = s.program;
+      end = s.end;
+      facts = s.facts;
+    }
+
+abbrev pub session_in : Result FoundSession Refusal → Session
+session_in (Ok s) = session_told s
+session_in (Err r) = record { number = code r; k = 0; count = 0; vectors = 0; predicates = 0; program = 0; end = 0; facts = no_facts }
 
 -- the length, the count, where each part past so many bytes starts and the last ends, and the facts
 abbrev pub placed : ℕ → ℕ → ℕ → Facts → Session

@@ -5,7 +5,7 @@ use Rattle.parts.specs.Number.{number_at}
 use Rattle.facts.specs.Facts.{all_byte}
 use Rattle.machine.specs.Size.{most_length, is_among, Legal, most_words}
 use Rattle.machine.specs.Refusal.{SESSION, Test, test, refused, unless_refused}
-use Rattle.session.specs.declared.Session.{Session}
+use Rattle.session.specs.Body.{Session}
 use Rattle.session.specs.Body.{facts_bytes, facts_place, files_place, length_in, count_in, facts_in, end_at, body_end, is_body, no_session, body_of}
 
 -- the mark `LNW`, and the versions: the first, and the one with facts

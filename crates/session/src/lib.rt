@@ -2,18 +2,17 @@
 #![tactic(auto)]
 
 ghost use Rattle.std.specs.Prelude.{◌≡◌, ◌≤◌, length};
-ghost use Rattle.session.specs.Body.{count_place, facts_place, files_place, facts_in, end_at, is_sized, placed as placed_at, no_session, body_of};
+ghost use Rattle.session.specs.Body.{count_place, facts_place, files_place, facts_in, end_at, is_sized, session_told, session_in, placed as placed_at, body_of};
 ghost use Rattle.session.specs.Layout.{length_at, most_header, session_version, is_headed, most_session, session_of};
-ghost use Rattle.machine.specs.Size.{most_length, most_words};
+ghost use Rattle.machine.specs.Size.{most_words};
 
 use facts::Facts;
-use machine::{Length, refusal};
+use machine::{Length, Refusal};
 
 // A session's length and count, where in its bytes the vector file, the predicate file and the program start, and the program
-// ends, and the core's facts; with a refusal, zeros and none.
+// ends, and the core's facts.
 #[derive(Clone, Copy)]
-pub struct Session {
-    pub number: u8,
+pub struct FoundSession {
     pub k: usize,
     pub count: usize,
     pub vectors: usize,
@@ -78,6 +77,7 @@ fn facts_place(start: usize) -> usize
 }
 
 // Where its files start: past the facts where they are told, else in their place.
+#[tactic(auto, unfolding(crate::specs::Body::files_place))]
 fn files_place(start: usize, told: bool) -> usize
     requires { start ≤ length_at }
     ensures { result ≡ files_place start told }
@@ -90,6 +90,7 @@ fn files_place(start: usize, told: bool) -> usize
 }
 
 // Its byte of facts, which stands for all where they are not told.
+#[tactic(auto, unfolding(crate::specs::Body::files_place))]
 fn facts_byte(bytes: &[u8], start: usize, told: bool) -> u8
     requires { (start ≤ length_at) × (files_place start told ≤ length bytes.now) }
     ensures { result ≡ facts_in start told bytes.now }
@@ -102,32 +103,28 @@ fn facts_byte(bytes: &[u8], start: usize, told: bool) -> u8
 }
 
 // Where the words end past so many bytes.
-fn end_of(header: usize, k: usize, count: usize) -> usize
-    requires { (header ≤ most_header) × (k ≤ most_length) × (count ≤ most_words) }
-    ensures { result ≡ end_at header k count }
+fn end_of(header: usize, k: Length, count: usize) -> usize
+    requires { (header ≤ most_header) × (count ≤ most_words) }
+    ensures { result ≡ end_at header k.units count }
 {
-    let length = Length { k };
     let words = Length::WORD_BYTES * count;
-    header + length.vector_file() + length.predicate_file() + words
+    header + k.vector_file() + k.predicate_file() + words
 }
 
 // The length, the count, where the parts past so many bytes lie, and the facts.
-fn placed(header: usize, k: usize, count: usize, facts: Facts) -> Session
-    requires { (header ≤ most_header) × (k ≤ most_length) × (count ≤ most_words) }
-    ensures { result ≡ placed_at header k count facts }
+fn placed(header: usize, k: Length, count: usize, facts: Facts) -> FoundSession
+    requires { (header ≤ most_header) × (count ≤ most_words) }
+    ensures { session_told result ≡ placed_at header k.units count facts }
 {
-    let length = Length { k };
-    let predicates = header + length.vector_file();
-    let program = predicates + length.predicate_file();
-    let end = end_of(header, k, count);
-    Session {
-        number: refusal::DONE,
-        k,
+    let predicates = header + k.vector_file();
+    let program = predicates + k.predicate_file();
+    FoundSession {
+        k: k.units,
         count,
         vectors: header,
         predicates,
         program,
-        end,
+        end: end_of(header, k, count),
         facts,
     }
 }
@@ -136,51 +133,33 @@ fn placed(header: usize, k: usize, count: usize, facts: Facts) -> Session
 fn is_sized(k: usize, count: usize) -> bool
     ensures { result ≡ is_sized k count }
 {
-    let length = Length { k };
-    if !length.is_legal() {
-        return false;
-    }
-    count <= Length::MOST_WORDS
-}
-
-// A refused session.
-fn refuse() -> Session
-    ensures { result ≡ no_session }
-{
-    Session {
-        number: refusal::SESSION,
-        k: 0,
-        count: 0,
-        vectors: 0,
-        predicates: 0,
-        program: 0,
-        end: 0,
-        facts: facts::none(),
-    }
+    machine::is_legal(k) && count <= Length::MOST_WORDS
 }
 
 // Reads the body that starts so, which more bytes may follow: where its parts lie, or SESSION.
-pub fn read_body(bytes: &[u8], start: usize, told: bool) -> Session
+#[tactic(auto, unfolding(crate::specs::Body::body_of))]
+pub fn read_body(bytes: &[u8], start: usize, told: bool) -> Result<FoundSession, Refusal>
     requires { start ≤ length_at }
-    ensures { result ≡ body_of start told bytes.now }
+    ensures { session_in result ≡ body_of start told bytes.now }
 {
     if bytes.len() < facts_place(start) {
-        return refuse();
+        return Err(Refusal::Session);
     }
     let k = parts::number_at(bytes, start, LENGTH_BYTES) as usize;
     let count = parts::number_at(bytes, count_place(start), COUNT_BYTES) as usize;
     if !is_sized(k, count) {
-        return refuse();
+        return Err(Refusal::Session);
     }
+    let length = Length { units: k };
     let files = files_place(start, told);
-    if bytes.len() < end_of(files, k, count) {
-        return refuse();
+    if bytes.len() < end_of(files, length, count) {
+        return Err(Refusal::Session);
     }
     let byte = facts_byte(bytes, start, told);
     if facts::ALL < byte {
-        return refuse();
+        return Err(Refusal::Session);
     }
-    placed(files, k, count, facts::facts_of(byte))
+    Ok(placed(files, length, count, facts::facts_of(byte)))
 }
 
 // The version.
@@ -196,26 +175,21 @@ fn is_headed(bytes: &[u8]) -> bool
     requires { length_at ≤ length bytes.now }
     ensures { result ≡ is_headed bytes.now }
 {
-    if !parts::same_bytes(&bytes[..MARK_BYTES], &MARK) {
-        return false;
-    }
     let version = version_of(bytes);
-    version == FIRST_VERSION || version == FACTS_VERSION
+    parts::same_bytes(&bytes[..MARK_BYTES], &MARK)
+        && (version == FIRST_VERSION || version == FACTS_VERSION)
 }
 
 // Reads bytes as a session: mark and version, the body, and nothing more; where its parts lie, or SESSION.
-pub fn read_session(bytes: &[u8]) -> Session
-    ensures { result ≡ session_of bytes.now }
+pub fn read_session(bytes: &[u8]) -> Result<FoundSession, Refusal>
+    ensures { session_in result ≡ session_of bytes.now }
 {
-    if bytes.len() < LENGTH_AT {
-        return refuse();
+    if bytes.len() < LENGTH_AT || !is_headed(bytes) {
+        return Err(Refusal::Session);
     }
-    if !is_headed(bytes) {
-        return refuse();
-    }
-    let body = read_body(bytes, LENGTH_AT, version_of(bytes) == FACTS_VERSION);
+    let body = read_body(bytes, LENGTH_AT, version_of(bytes) == FACTS_VERSION)?;
     if body.end != bytes.len() {
-        return refuse();
+        return Err(Refusal::Session);
     }
-    body
+    Ok(body)
 }

@@ -15,8 +15,8 @@ use Rattle.rows.specs.Table.{family_of}
 use Rattle.facts.specs.declared.Facts.{Facts}
 use Rattle.words.specs.Decode.{decoded, number_of, fields_of, word_tests}
 use Rattle.words.specs.declared.Fields.{Fields}
-use Rattle.words.specs.declared.Decoded.{Decoded}
-use Rattle.words.specs.declared.Decoded.TheVariants.{Unknown, Undefined, Word}
+use Rattle.words.specs.Decode.{Decoded}
+use Rattle.words.specs.Decode.{Unknown, Undefined, Word}
 use Rattle.words.proofs.Encoding.{decoded_in_range}
 use Rattle.cores.specs.Core.{decoded_on}
 use Rattle.cores.proofs.Answers.{core_decodes}

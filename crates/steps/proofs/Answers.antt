@@ -6,7 +6,10 @@ use mathlib.Core.Path.{◌≡◌, refl}
 use mathlib.Core.Bool.{true}
 use mathlib.Core.Logic.{◌↔◌}
 use mathlib.Core.List.{List}
-use Rattle.machine.specs.Refusal.{First, in_order}
+use Rattle.std.specs.Prelude.{Result}
+use Rattle.machine.specs.Refusal.{answered, First, in_order}
+use Rattle.machine.specs.declared.refusal.Refusal.{Refusal}
+use Rattle.machine.proofs.Codes.{answered_tells}
 use Rattle.machine.proofs.Tests.{first_exactly}
 use Rattle.journal.specs.Left.{Core, Buffers}
 use Rattle.journal.specs.Calls.{back_tests}
@@ -28,9 +31,12 @@ unfolding backed
 back_exactly k b n = first_exactly (back_tests k b) n
 
 -- two results of a call are the same
-pub step_determined : (c : Core) (program : List ℕ) (b : Buffers) (r q : ℕ) (after other : Buffers) → Stepped c program b r after → Stepped c program b q other
-    → (r ≡ q) × (after ≡ other)
-step_determined c program b r q after other x y = left_determined (stepped c program b) r q after other x.leaves y.leaves
+pub step_determined : (c : Core) (program : List ℕ) (b : Buffers) (r q : Result Unit Refusal) (after other : Buffers)
+    → Stepped c program b (answered r) after → Stepped c program b (answered q) other → (r ≡ q) × (after ≡ other)
+step_determined c program b r q after other x y =
+    let same = left_determined (stepped c program b) (answered r) (answered q) after other x.leaves y.leaves in (answered_tells r q same.0, same.1)
 
-pub back_determined : (k : ℕ) (b : Buffers) (r q : ℕ) (after other : Buffers) → Backed k b r after → Backed k b q other → (r ≡ q) × (after ≡ other)
-back_determined k b r q after other x y = left_determined (backed k b) r q after other x.leaves y.leaves
+pub back_determined : (k : ℕ) (b : Buffers) (r q : Result Unit Refusal) (after other : Buffers)
+    → Backed k b (answered r) after → Backed k b (answered q) other → (r ≡ q) × (after ≡ other)
+back_determined k b r q after other x y =
+    let same = left_determined (backed k b) (answered r) (answered q) after other x.leaves y.leaves in (answered_tells r q same.0, same.1)

@@ -20,8 +20,8 @@ use Rattle.rows.proofs.Every.{every, at_each}
 use Rattle.words.specs.Decode.{fields_of, word_tests}
 use Rattle.words.specs.Encode.{InRange}
 use Rattle.words.specs.declared.Fields.{Fields}
-use Rattle.words.specs.declared.Decoded.{Decoded}
-use Rattle.words.specs.declared.Decoded.TheVariants.{Unknown, Undefined, Word}
+use Rattle.words.specs.Decode.{Decoded}
+use Rattle.words.specs.Decode.{Unknown, Undefined, Word}
 use Rattle.words.proofs.Encoding.{decoded_in_range}
 use Rattle.cores.specs.Core.{decoded_on}
 use Rattle.cores.proofs.Answers.{core_decodes}

@@ -5,7 +5,7 @@ use Rattle.registers.specs.Register.{entry_number}
 use Rattle.programs.specs.Word.{word_at}
 use Rattle.words.specs.Decode.{decoded, fields_of, word_tests}
 use Rattle.words.specs.declared.Fields.{Fields}
-use Rattle.words.specs.declared.Decoded.{Decoded}
+use Rattle.words.specs.Decode.{Decoded}
 use Rattle.cores.specs.Core.{decoded_on}
 use Rattle.meaning.specs.Execute.{target_of, executed}
 use Rattle.entries.specs.Layout.{position_of, may_name, is_full, last_entry, pushed, popped}

@@ -3,7 +3,7 @@ use Rattle.std.specs.Prelude.{ℕ, ◌+◌, ◌-◌, Bool, not, List, [], ◌∷
 use Rattle.parts.specs.Part.{both, same_bytes}
 use Rattle.machine.specs.Size.{vectors, most_words, vector_bytes}
 use Rattle.machine.specs.Refusal.{Test, test, ROOM, JOURNAL, length_tests, program_tests, refused, answer}
-use Rattle.machine.specs.declared.Answer.{Answer}
+use Rattle.machine.specs.Refusal.{Answer}
 use Rattle.programs.specs.Word.{end_tests}
 use Rattle.registers.specs.Register.{vector_of, with_vector, padded}
 use Rattle.registers.specs.State.{state}

@@ -1,6 +1,6 @@
 -- Where a segment's lanes stand in the register, and the low bytes of what a lane adds.
 -- Assumes nothing.
-use Rattle.std.proofs.Common.{◌≡◌, ℕ, ◌+◌, ◌*◌, ◌%◌, ◌^◌, ◌<◌, ◌≤◌, Bool, true, false, cond, pos, sym, refl, ap, ◌∙◌, mul_assoc, add-mul, le-mul_of_pos_right, arith}
+use Rattle.std.proofs.Common.{◌≡◌, ℕ, ◌+◌, ◌*◌, ◌%◌, ◌^◌, ◌<◌, ◌≤◌, Bool, true, false, cond, pos, sym, refl, ap, ◌∙◌, mul_assoc, add-mul, arith}
 use Rattle.machine.specs.Size.{segment_bytes}
 use Rattle.machine.proofs.Places.{place_within}
 use Rattle.parts.specs.Number.{bytes_of}
@@ -19,10 +19,6 @@ pub lane_place : (w s e : ℕ) → FillsSegment w → (s * per_segment w + e) * 
 lane_place w s e f =
     add-mul (s * per_segment w) e w
     ∙ ap (λ (n : ℕ). n + e * w) (mul_assoc s (per_segment w) w ∙ ap (λ (n : ℕ). s * n) f)
-
--- no more lanes than bytes stand before a segment
-pub segment_le : (w s : ℕ) → 1 ≤ w → FillsSegment w → s * per_segment w ≤ s * segment_bytes
-segment_le w s h f = omega (arith, le-mul_of_pos_right (s * per_segment w) h, mul_assoc s (per_segment w) w ∙ ap (λ (n : ℕ). s * n) f)
 
 -- the low bytes of what a lane adds are those of its number if it is active, else zeros
 pub counted_bytes : (w : ℕ) → w ≤ 8 → (t : Bool) (n : ℕ) → bytes_of w (residue 64 (counted t (pos n))) ≡ bytes_of w (cond t n 0)

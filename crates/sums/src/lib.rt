@@ -1,7 +1,7 @@
 // Sums of a register's lanes: the active lanes in order, every lane in order, a range split at its middle; and the panel of segments.
 #![tactic(auto)]
 
-ghost use Rattle.std.specs.Prelude.{◌≡◌, ◌+◌, ◌≤◌};
+ghost use Rattle.std.specs.Prelude.{◌≡◌, ℕ, ◌+◌, ◌≤◌, ◌<◌, ℤ};
 ghost use Rattle.lanes.specs.Integer.{residue};
 ghost use Rattle.lanes.specs.Sum.{each, element, active_element, total};
 ghost use Rattle.sums.specs.Sums.{lane_sum, EveryLane, GovernedLane, GovernedRange};
@@ -22,18 +22,24 @@ pub fn lane_value(register: &[u8], predicate: &[u8], w: usize, signed: bool, e: 
     }
 }
 
-// The sum of the active lanes from a up to but without b, lane by lane, modulo 2^64.
-fn sum_run(register: &[u8], predicate: &[u8], w: usize, signed: bool, a: usize, b: usize) -> u64
-    requires { GovernedRange w a b predicate.now register.now }
-    ensures { result ≡ lane_sum signed w a b predicate.now register.now }
+// The sum of what each number below count adds, in order, modulo 2^64.
+fn sum_below<F: Fn(usize) -> u64>(count: usize, adds: F) -> u64
+    requires { (e : ℕ) → e < count → F.pre adds e }
+    ensures { (f : ℕ → ℤ) → ((e n : ℕ) → e < count → F.post adds e n → n ≡ residue 64 (f e)) → result ≡ residue 64 (total (each f 0 count)) }
 {
     let mut sum: u64 = 0;
-    let mut e = a;
-    while e < b {
-        sum = std::num::wrapping_add_u64(sum, lane_value(register, predicate, w, signed, e));
-        e += 1;
+    for e in 0..count {
+        sum = sum.wrapping_add(adds(e));
     }
     sum
+}
+
+// The sum of the active lanes below count, lane by lane, modulo 2^64.
+fn sum_run(register: &[u8], predicate: &[u8], w: usize, signed: bool, count: usize) -> u64
+    requires { GovernedRange w 0 count predicate.now register.now }
+    ensures { result ≡ lane_sum signed w 0 count predicate.now register.now }
+{
+    sum_below(count, |e| lane_value(register, predicate, w, signed, e))
 }
 
 // The sum of the active lanes below count, lane by lane, modulo 2^64. The widths of lanes are told apart, so that each is summed by code of
@@ -43,11 +49,11 @@ pub fn sum_lanes(register: &[u8], predicate: &[u8], w: usize, signed: bool, coun
     ensures { result ≡ lane_sum signed w 0 count predicate.now register.now }
 {
     match w {
-        1 => sum_run(register, predicate, 1, signed, 0, count),
-        2 => sum_run(register, predicate, 2, signed, 0, count),
-        4 => sum_run(register, predicate, 4, signed, 0, count),
-        8 => sum_run(register, predicate, 8, signed, 0, count),
-        _ => sum_run(register, predicate, w, signed, 0, count),
+        1 => sum_run(register, predicate, 1, signed, count),
+        2 => sum_run(register, predicate, 2, signed, count),
+        4 => sum_run(register, predicate, 4, signed, count),
+        8 => sum_run(register, predicate, 8, signed, count),
+        _ => sum_run(register, predicate, w, signed, count),
     }
 }
 
@@ -56,13 +62,7 @@ fn every_run(register: &[u8], w: usize, signed: bool, count: usize) -> u64
     requires { EveryLane w count register.now }
     ensures { result ≡ residue 64 (total (each (element signed w register.now) 0 count)) }
 {
-    let mut sum: u64 = 0;
-    let mut e = 0;
-    while e < count {
-        sum = std::num::wrapping_add_u64(sum, lanes::element_at(register, w, signed, e));
-        e += 1;
-    }
-    sum
+    sum_below(count, |e| lanes::element_at(register, w, signed, e))
 }
 
 // The sum of every lane below count, modulo 2^64; the widths of lanes are told apart, as for active lanes.
@@ -91,7 +91,7 @@ fn sum_few(register: &[u8], predicate: &[u8], w: usize, signed: bool, a: usize, 
         return first;
     }
     let second = lane_value(register, predicate, w, signed, a + 1);
-    std::num::wrapping_add_u64(first, second)
+    first.wrapping_add(second)
 }
 
 // The sum of the active lanes from a up to but without b, modulo 2^64: the range is split at its middle and each half summed the same
@@ -113,7 +113,7 @@ pub fn sum_between(
     let middle = a + (b - a) / 2;
     let low = sum_between(register, predicate, w, signed, a, middle);
     let high = sum_between(register, predicate, w, signed, middle, b);
-    std::num::wrapping_add_u64(low, high)
+    low.wrapping_add(high)
 }
 
 // Segment s of a register with its inactive lanes zeroed.
@@ -124,11 +124,9 @@ fn panel_row(register: &[u8], predicate: &[u8], w: usize, s: usize) -> [u8; 16]
     let count = Length::SEGMENT_BYTES / w;
     let first = s * count;
     let mut row = [0u8; 16];
-    let mut e = 0;
-    while e < count {
+    for e in 0..count {
         let n = lane_value(register, predicate, w, false, first + e);
         lanes::put_lane(&mut row, w, e, n);
-        e += 1;
     }
     row
 }
@@ -140,10 +138,8 @@ pub fn panel_of(register: &[u8], predicate: &[u8], w: usize) -> [[u8; 16]; 16]
 {
     let count = register.len() / Length::SEGMENT_BYTES;
     let mut rows = [[0u8; 16]; 16];
-    let mut s = 0;
-    while s < count {
+    for s in 0..count {
         rows[s] = panel_row(register, predicate, w, s);
-        s += 1;
     }
     rows
 }

@@ -8,7 +8,7 @@ ghost use Rattle.std.specs.Prelude.{◌<◌};
 ghost use Rattle.machine.specs.Size.{sizes};
 
 use facts::Facts;
-use machine::{Length, refusal};
+use machine::Length;
 use patterns::PATTERNS;
 use rows::ROWS;
 use std::io;
@@ -16,11 +16,8 @@ use std::io;
 // Every digit but those of the size.
 const NO_SIZE: u32 = 0xFF3FFFFF;
 
-// How many words of document 01 there are.
-const COUNT: usize = 9;
-
-// They are its session, M12, and two of no row.
-const WORDS: [u32; COUNT] = [
+// The words of document 01: its session, M12, and two of no row.
+const WORDS: [u32; 9] = [
     0x04002020, 0x2E303822, 0x45410023, 0x04C02020, 0x2EB03800, 0x45000000, 0x6EB03800, 0,
     0xFFFFFFFF,
 ];
@@ -44,11 +41,10 @@ fn word_of(row: usize, size: u32, most: bool) -> u32
 fn show_word(rt: &impl Print, word: u32) -> io::Result<()> {
     let mut out = [0u8; names::LEAST_OUT];
     let named = names::text(word, facts::all(), &mut out);
-    let number = named.number;
+    let number = machine::answered(named);
     print!(rt; "{word:08x} {number}")?;
-    if number == refusal::DONE {
-        let count = named.value as usize;
-        let read = assembles::assemble(&out[..count], facts::all()).value;
+    if let Ok(count) = named {
+        let read = assembles::assemble(&out[..count], facts::all()).unwrap_or(0);
         rt.write_all(b" ")?;
         rt.write_all(&out[..count])?;
         print!(rt; " {read:08x}")?;
@@ -68,18 +64,14 @@ fn show_row(rt: &impl Print, row: usize) -> io::Result<()> {
 // The number that naming a word answers on a core whose facts a byte tells.
 fn number_on(byte: u8, word: u32) -> u8 {
     let mut out = [0u8; names::LEAST_OUT];
-    names::text(word, facts::facts_of(byte), &mut out).number
+    machine::answered(names::text(word, facts::facts_of(byte), &mut out))
 }
 
 // The size of a row's word that is named on each core: 1, or 0 where its words have no other.
 fn size_on_each(row: usize) -> u32
     ensures { result < sizes }
 {
-    if words::size_digits(rows::family_of(row)) == 0 {
-        0
-    } else {
-        1
-    }
+    u32::from(words::size_digits(rows::family_of(row)) != 0)
 }
 
 // A row's line: a word of it, and the number that naming it answers on each core, whose facts are the bits of 0 to 31.
@@ -103,8 +95,8 @@ fn show_rows(rt: &impl Print) -> io::Result<()> {
 
 // The lines of the paper's words.
 fn show_words(rt: &impl Print) -> io::Result<()> {
-    for i in 0..COUNT {
-        show_word(rt, WORDS[i])?;
+    for word in WORDS {
+        show_word(rt, word)?;
     }
     Ok(())
 }
@@ -124,7 +116,7 @@ fn show_text(rt: &impl Print, text: &[u8]) -> io::Result<()> {
 
 // A text's line on a core.
 fn show_text_on(rt: &impl Print, facts: Facts, text: &[u8]) -> io::Result<()> {
-    let number = assembles::assemble(text, facts).number;
+    let number = machine::answered(assembles::assemble(text, facts));
     print!(rt; "{number} [")?;
     rt.write_all(text)?;
     rt.write_all(b"]\n")
@@ -211,7 +203,7 @@ fn show_made_misses(rt: &impl Print) -> io::Result<()> {
 // A text of 10,000 bytes: its line has the number alone.
 fn show_long(rt: &impl Print) -> io::Result<()> {
     let text = [b'z'; 10000];
-    rt.println(assembles::assemble(&text, facts::all()).number)
+    rt.println(machine::answered(assembles::assemble(&text, facts::all())))
 }
 
 // Texts that some cores have and others do not.

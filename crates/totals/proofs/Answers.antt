@@ -10,8 +10,13 @@ use native.Mathlib.Omega.{arith}
 use borrow.Author.Tests.{le-leb}
 use Rattle.machine.specs.Size.{vector_bytes}
 use Rattle.registers.specs.Register.{vector_of, predicate_of}
-use Rattle.machine.specs.Refusal.{DONE, First, in_order, answer}
-use Rattle.machine.specs.declared.Answer.{Answer}
+use Rattle.registers.specs.declared.files.Files.{Files}
+use Rattle.registers.proofs.Told.{AreLent, files_tell}
+use denote.Ref.{Bor}
+use Rattle.std.specs.Prelude.{Result, IfOk}
+use Rattle.machine.specs.declared.refusal.Refusal.{Refusal}
+use Rattle.machine.specs.Refusal.{DONE, First, in_order, answer, answered, answer_of}
+use Rattle.machine.proofs.Codes.{answer_tells}
 use Rattle.machine.proofs.Tests.{first_exactly, first_after, one_result}
 use Rattle.lanes.specs.Lane.{width_of}
 use Rattle.lanes.specs.Sum.{active_element}
@@ -20,6 +25,14 @@ use Rattle.sums.specs.Split.{split_sum}
 use Rattle.totals.specs.Calls.{panel_tests, panel_refused, panel_answer, subtotal_tests, subtotal_refused, subtotal_answer}
 use Rattle.sums.proofs.Ranges.{sum_none}
 use Rattle.sums.proofs.Split.{split_is_lane_order}
+
+pub panel_refusal_determined : (k : ℕ) (z p : Bor (List ℕ)) (source predicate size : ℕ) (a b : Result Files Refusal)
+    → answered a ≡ panel_refused k z.now p.now source predicate size
+    → IfOk a (AreLent k z p)
+    → answered b ≡ panel_refused k z.now p.now source predicate size
+    → IfOk b (AreLent k z p)
+    → a ≡ b
+panel_refusal_determined k z p source predicate size a b s x t y = files_tell k z p a b (s ∙ sym t) x y
 
 -- with 0 as the value, an answer's value is 0
 zero_value : (n v : ℕ) → v ≡ 0 → (answer n v).value ≡ 0
@@ -41,18 +54,15 @@ module _ (k : ℕ) (z p : List ℕ) (source predicate size : ℕ) where
   pub subtotal_in_order : (a b : ℕ) → in_order (subtotal_tests k z p source predicate size a b) ≡ true
   subtotal_in_order a b = refl
 
-  pub panel_refusal_determined : {r s : ℕ} → r ≡ panel_refused k z p source predicate size → s ≡ panel_refused k z p source predicate size → r ≡ s
-  panel_refusal_determined = one_result _ _ _
-
   pub panel_determined : {r s : List (List ℕ)} → r ≡ panel_answer k z p source predicate size → s ≡ panel_answer k z p source predicate size → r ≡ s
   panel_determined = one_result _ _ _
 
   module _ (signed : Bool) where
-    pub subtotal_determined : (a b : ℕ) {r s : Answer}
-        → r ≡ subtotal_answer k z p source predicate size signed a b
-        → s ≡ subtotal_answer k z p source predicate size signed a b
+    pub subtotal_determined : (a b : ℕ) (r s : Result ℕ Refusal)
+        → answer_of r ≡ subtotal_answer k z p source predicate size signed a b
+        → answer_of s ≡ subtotal_answer k z p source predicate size signed a b
         → r ≡ s
-    subtotal_determined a b = one_result _ _ _
+    subtotal_determined a b r s x y = answer_tells r s (x ∙ sym y)
 
     -- the range is split at its middle and each half summed the same way
     pub subtotal_is_split : (a b : ℕ)

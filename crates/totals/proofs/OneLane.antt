@@ -20,7 +20,7 @@ use Rattle.lanes.specs.Integer.{residue}
 use Rattle.lanes.specs.Sum.{element, ElementIn}
 use Rattle.totals.specs.Calls.{lanes_at}
 use Rattle.totals.specs.Lane.{is_lane, lane_tests, lane_refused, lane_answer}
-use Rattle.totals.specs.declared.Lane.{Lane}
+use Rattle.totals.specs.Lane.{Lane}
 use Rattle.totals.proofs.Accepted.{Accepted, governs, lanes_within}
 
 module _ (k : ℕ) (z p : List ℕ) (source predicate size e : ℕ) where

@@ -4,7 +4,7 @@ use Rattle.machine.specs.Size.{vectors, governing, sizes, vector_bytes}
 use Rattle.registers.specs.Register.{vector_of, predicate_of}
 use Rattle.parts.specs.Part.{both}
 use Rattle.machine.specs.Refusal.{RANGE, Test, test_at, refused, files_tests, range_test, unless_refused, answer}
-use Rattle.machine.specs.declared.Answer.{Answer}
+use Rattle.machine.specs.Refusal.{Answer}
 use Rattle.lanes.specs.Lane.{width_of}
 use Rattle.sums.specs.Sums.{lane_sum}
 use Rattle.sums.specs.Panel.{panel_of, no_panel}

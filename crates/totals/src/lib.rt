@@ -1,21 +1,20 @@
 // The calls for one lane, for a panel and for a subtotal: what a pane draws of a sum, for every input.
 #![tactic(auto)]
 
-ghost use Rattle.std.specs.Prelude.{◌≡◌, ◌+◌, ◌≤◌, length};
-ghost use Rattle.parts.specs.Part.{with_part, laid};
-ghost use Rattle.machine.specs.Size.{segment_bytes, most_length};
+ghost use Rattle.std.specs.Prelude.{◌≡◌, IfOk};
+ghost use Rattle.machine.specs.Refusal.{answered, answer_of};
 ghost use Rattle.totals.specs.Calls.{panel_refused, panel_answer, subtotal_refused, subtotal_answer};
-ghost use Rattle.totals.specs.Lane.{is_lane, lane_refused, lane_answer, no_lane};
-ghost use Rattle.totals.specs.Written.{panel_bytes, joined, PanelWritten};
+ghost use Rattle.totals.specs.Lane.{is_lane, lane_refused, lane_in, lane_answer};
+ghost use Rattle.totals.specs.Written.{PanelWritten};
 
-use machine::{Answer, Length, refusal};
+use machine::{Length, Refusal};
 use registers::Kind;
+use registers::files::Files;
 
 // What is told of a lane: its integer at 64 bits, whether it is active, where it starts in the vector file, and its bit of the predicate
-// register; with a refusal nothing.
+// register.
 #[derive(Clone, Copy)]
-pub struct Lane {
-    pub number: u8,
+pub struct FoundLane {
     pub value: u64,
     pub active: bool,
     pub start: usize,
@@ -23,60 +22,39 @@ pub struct Lane {
 }
 
 // Whether there are such a source register, predicate register, size and lane.
-fn is_lane(k: usize, source: usize, predicate: usize, size: usize, e: usize) -> bool
-    requires { k ≤ most_length }
-    ensures { result ≡ is_lane k source predicate size e }
+fn is_lane(k: Length, source: usize, predicate: usize, size: usize, e: usize) -> bool
+    ensures { result ≡ is_lane k.units source predicate size e }
 {
-    if Length::VECTORS <= source {
-        return false;
-    }
-    if Length::PREDICATES <= predicate {
-        return false;
-    }
-    if Length::SIZES <= size {
-        return false;
-    }
-    let length = Length { k };
-    e < length.vector_bytes() / lanes::width_of(size)
+    source < Length::VECTORS
+        && predicate < Length::PREDICATES
+        && size < Length::SIZES
+        && e < k.vector_bytes() / lanes::width_of(size)
 }
 
-// The number that a lane is answered with: LENGTH, FILE, RANGE or DONE.
-fn lane_refusal(
+// The files of a lane; or LENGTH, FILE or RANGE.
+#[tactic(auto, unfolding(crate::specs::Lane::lane_refused))]
+fn check_lane<'a>(
     k: usize,
-    z: &[u8],
-    p: &[u8],
+    z: &'a [u8],
+    p: &'a [u8],
     source: usize,
     predicate: usize,
     size: usize,
     e: usize,
-) -> u8
-    ensures { result ≡ lane_refused k z.now p.now source predicate size e }
+) -> Result<Files<'a>, Refusal>
+    ensures number { answered result ≡ lane_refused k z.now p.now source predicate size e }
+    ensures files { IfOk result (λ files. (files.k.units ≡ k) × (files.z ≡ z.entry) × (files.p ≡ p.entry)) }
 {
-    let files = machine::check_files(k, z, p);
-    if files != refusal::DONE {
-        return files;
-    }
-    if is_lane(k, source, predicate, size, e) {
-        refusal::DONE
+    let files = Files::new(k, z, p)?;
+    if is_lane(files.k, source, predicate, size, e) {
+        Ok(files)
     } else {
-        refusal::RANGE
+        Err(Refusal::Range)
     }
 }
 
-// A refusal with nothing told of a lane.
-fn no_lane(number: u8) -> Lane
-    ensures { result ≡ no_lane number }
-{
-    Lane {
-        number,
-        value: 0,
-        active: false,
-        start: 0,
-        bit: 0,
-    }
-}
-
-// What is told of lane e of a source register under a predicate register; nothing where it is refused.
+// What is told of lane e of a source register under a predicate register; or LENGTH, FILE or RANGE.
+#[tactic(auto, unfolding(crate::specs::Lane::lane_refused))]
 pub fn read_lane(
     k: usize,
     z: &[u8],
@@ -86,55 +64,45 @@ pub fn read_lane(
     size: usize,
     signed: bool,
     e: usize,
-) -> Lane
-    ensures { result ≡ lane_answer k z.now p.now source predicate size signed e }
+) -> Result<FoundLane, Refusal>
+    ensures { lane_in result ≡ lane_answer k z.now p.now source predicate size signed e }
 {
-    let number = lane_refusal(k, z, p, source, predicate, size, e);
-    if number != refusal::DONE {
-        return no_lane(number);
-    }
-    let register = registers::register(k, Kind::Vector, z, source);
-    let governing = registers::register(k, Kind::Predicate, p, predicate);
+    let files = check_lane(k, z, p, source, predicate, size, e)?;
+    let register = files.register(Kind::Vector, source);
+    let governing = files.register(Kind::Predicate, predicate);
     let w = lanes::width_of(size);
     let bit = e * w;
-    let start = registers::register_at(k, Kind::Vector, source) + bit;
-    Lane {
-        number,
+    let start = registers::register_at(files.k, Kind::Vector, source) + bit;
+    Ok(FoundLane {
         value: lanes::element_at(register, w, signed, e),
         active: lanes::is_active(governing, w, e),
         start,
         bit,
-    }
+    })
 }
 
-// The number that a panel is answered with: LENGTH, FILE, RANGE or DONE.
-pub fn panel_refusal(
+// The files of a panel; or LENGTH, FILE or RANGE.
+pub fn check_panel<'a>(
     k: usize,
-    z: &[u8],
-    p: &[u8],
+    z: &'a [u8],
+    p: &'a [u8],
     source: usize,
     governing: usize,
     size: usize,
-) -> u8
-    ensures { result ≡ panel_refused k z.now p.now source governing size }
+) -> Result<Files<'a>, Refusal>
+    ensures number { answered result ≡ panel_refused k z.now p.now source governing size }
+    ensures files { IfOk result (λ files. (files.k.units ≡ k) × (files.z ≡ z.entry) × (files.p ≡ p.entry)) }
 {
-    let refused = machine::check_files(k, z, p);
-    if refused != refusal::DONE {
-        return refused;
+    let files = Files::new(k, z, p)?;
+    if source < Length::VECTORS && governing < Length::GOVERNING && size < Length::SIZES {
+        Ok(files)
+    } else {
+        Err(Refusal::Range)
     }
-    if Length::VECTORS <= source {
-        return refusal::RANGE;
-    }
-    if Length::GOVERNING <= governing {
-        return refusal::RANGE;
-    }
-    if Length::SIZES <= size {
-        return refusal::RANGE;
-    }
-    refusal::DONE
 }
 
 // The panel of a source register under a governing predicate; all zeros where it is refused.
+#[tactic(auto, unfolding(sums::specs::Panel::no_panel))]
 pub fn panel(
     k: usize,
     z: &[u8],
@@ -145,42 +113,37 @@ pub fn panel(
 ) -> [[u8; 16]; 16]
     ensures { result ≡ panel_answer k z.now p.now source governing size }
 {
-    if panel_refusal(k, z, p, source, governing, size) != refusal::DONE {
+    let Ok(files) = check_panel(k, z, p, source, governing, size) else {
         return [[0u8; 16]; 16];
-    }
-    let register = registers::register(k, Kind::Vector, z, source);
-    let predicate = registers::register(k, Kind::Predicate, p, governing);
+    };
+    let register = files.register(Kind::Vector, source);
+    let predicate = files.register(Kind::Predicate, governing);
     sums::panel_of(register, predicate, lanes::width_of(size))
 }
 
-// The number that a subtotal is answered with: LENGTH, FILE, RANGE or DONE.
-fn subtotal_refusal(
+// The files of a subtotal; or LENGTH, FILE or RANGE.
+fn check_subtotal<'a>(
     k: usize,
-    z: &[u8],
-    p: &[u8],
+    z: &'a [u8],
+    p: &'a [u8],
     source: usize,
     governing: usize,
     size: usize,
     a: usize,
     b: usize,
-) -> u8
-    ensures { result ≡ subtotal_refused k z.now p.now source governing size a b }
+) -> Result<Files<'a>, Refusal>
+    ensures number { answered result ≡ subtotal_refused k z.now p.now source governing size a b }
+    ensures files { IfOk result (λ files. (files.k.units ≡ k) × (files.z ≡ z.entry) × (files.p ≡ p.entry)) }
 {
-    let refused = panel_refusal(k, z, p, source, governing, size);
-    if refused != refusal::DONE {
-        return refused;
+    let files = check_panel(k, z, p, source, governing, size)?;
+    if a <= b && b <= files.k.vector_bytes() / lanes::width_of(size) {
+        Ok(files)
+    } else {
+        Err(Refusal::Range)
     }
-    if b < a {
-        return refusal::RANGE;
-    }
-    let length = Length { k };
-    if length.vector_bytes() / lanes::width_of(size) < b {
-        return refusal::RANGE;
-    }
-    refusal::DONE
 }
 
-// The sum of a source's active lanes from a up to but without b, modulo 2^64; 0 where it is refused.
+// The sum of a source's active lanes from a up to but without b, modulo 2^64; or LENGTH, FILE or RANGE.
 pub fn subtotal(
     k: usize,
     z: &[u8],
@@ -191,41 +154,18 @@ pub fn subtotal(
     signed: bool,
     a: usize,
     b: usize,
-) -> Answer
-    ensures { result ≡ subtotal_answer k z.now p.now source governing size signed a b }
+) -> Result<u64, Refusal>
+    ensures { answer_of result ≡ subtotal_answer k z.now p.now source governing size signed a b }
 {
-    let number = subtotal_refusal(k, z, p, source, governing, size, a, b);
-    if number != refusal::DONE {
-        return Answer { number, value: 0 };
-    }
-    let register = registers::register(k, Kind::Vector, z, source);
-    let predicate = registers::register(k, Kind::Predicate, p, governing);
-    let value = sums::sum_between(register, predicate, lanes::width_of(size), signed, a, b);
-    Answer { number, value }
+    let files = check_subtotal(k, z, p, source, governing, size, a, b)?;
+    let register = files.register(Kind::Vector, source);
+    let predicate = files.register(Kind::Predicate, governing);
+    let w = lanes::width_of(size);
+    Ok(sums::sum_between(register, predicate, w, signed, a, b))
 }
 
 // The bytes of a panel.
 const PANEL_BYTES: usize = Length::MOST * Length::SEGMENT_BYTES;
-
-// Writes a row at a place of the output.
-fn write_row(out: &mut [u8], at: usize, row: [u8; 16])
-    requires { at + segment_bytes ≤ length out.old }
-    ensures { (length row ≡ segment_bytes) × (out.new ≡ with_part at segment_bytes row out.old) }
-{
-    parts::overwrite(out, at, &row);
-}
-
-// Writes a panel's rows one after the other at the front of the output.
-fn write_rows(out: &mut [u8], rows: [[u8; 16]; 16])
-    requires { panel_bytes ≤ length out.old }
-    ensures { out.new ≡ laid (joined rows) out.old }
-{
-    let mut s = 0;
-    while s < Length::MOST {
-        write_row(out, Length::SEGMENT_BYTES * s, rows[s]);
-        s += 1;
-    }
-}
 
 // The panel's rows one after the other at the front of the output, or LENGTH, FILE, OUT or RANGE.
 pub fn write_panel(
@@ -236,20 +176,15 @@ pub fn write_panel(
     governing: usize,
     size: usize,
     out: &mut [u8],
-) -> u8
-    ensures { PanelWritten k z.now p.now source governing size out.old result out.new }
+) -> Result<(), Refusal>
+    ensures { PanelWritten k z.now p.now source governing size out.old (answered result) out.new }
 {
-    let files = machine::check_files(k, z, p);
-    if files != refusal::DONE {
-        return files;
-    }
+    Files::new(k, z, p)?;
     if out.len() < PANEL_BYTES {
-        return refusal::OUT;
+        return Err(Refusal::Out);
     }
-    let refused = panel_refusal(k, z, p, source, governing, size);
-    if refused != refusal::DONE {
-        return refused;
-    }
-    write_rows(out, panel(k, z, p, source, governing, size));
-    refusal::DONE
+    check_panel(k, z, p, source, governing, size)?;
+    let rows = panel(k, z, p, source, governing, size);
+    parts::overwrite(out, 0, rows.as_flattened());
+    Ok(())
 }

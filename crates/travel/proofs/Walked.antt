@@ -14,7 +14,7 @@ use Rattle.registers.specs.Register.{entry_number}
 use Rattle.registers.specs.State.{State, Sized}
 use Rattle.programs.specs.Word.{word_at, words_of}
 use Rattle.words.specs.Decode.{decoded}
-use Rattle.words.specs.declared.Decoded.TheVariants.{Word}
+use Rattle.words.specs.Decode.{Word}
 use Rattle.cores.specs.Core.{decoded_on}
 use Rattle.cores.proofs.Answers.{core_decodes}
 use Rattle.meaning.specs.Execute.{target_of}

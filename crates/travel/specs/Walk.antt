@@ -7,7 +7,7 @@ use Rattle.programs.specs.Word.{word_at, words_of}
 use Rattle.words.specs.Decode.{decoded, fields_of}
 use Rattle.cores.specs.Core.{decoded_on}
 use Rattle.words.specs.declared.Fields.{Fields}
-use Rattle.words.specs.declared.Decoded.TheVariants.{Word}
+use Rattle.words.specs.Decode.{Word}
 use Rattle.meaning.specs.Execute.{target_of, executed}
 use Rattle.entries.specs.Layout.{Entry, version_of, greatest_of, capacity_of, journal_of}
 use Rattle.entries.specs.Restored.{entry_of}

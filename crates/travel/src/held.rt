@@ -5,21 +5,20 @@ ghost use Rattle.journal.specs.Left.{core_of, buffers_of};
 ghost use Rattle.travel.specs.Travel.{Made};
 
 use crate::Travelled;
-use facts::Facts;
+use facts::Core;
 
 // Travel by the call: the counts, the state and every byte of the journal.
 pub(crate) fn held_travel(
-    k: usize,
-    facts: Facts,
+    core: Core,
     z: &mut [u8],
     p: &mut [u8],
     program: &[u8],
     journal: &mut [u8],
     directions: &[u8],
 ) -> Travelled
-    ensures { Made (core_of k facts) (buffers_of (state z.old p.old) journal.old) program.now directions.now
+    ensures { Made (core_of core.k core.facts) (buffers_of (state z.old p.old) journal.old) program.now directions.now
         (buffers_of (state z.new p.new) journal.new)
         result }
 {
-    crate::travel(k, facts, z, p, program, journal, directions)
+    crate::travel(core, z, p, program, journal, directions)
 }

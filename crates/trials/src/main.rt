@@ -2,10 +2,9 @@
 #![tactic(auto)]
 
 ghost use Rattle.std.specs.Prelude.{◌≤◌};
-ghost use Rattle.machine.specs.Size.{most_length};
 ghost use Rattle.entries.specs.Layout.{most_journal};
 
-use facts::Facts;
+use facts::{Core, Facts};
 use machine::Length;
 use std::io;
 
@@ -19,7 +18,7 @@ const CHOICES: u64 = 3;
 // What a run is told: the length, its journal's version and the facts of its core.
 #[derive(Clone, Copy)]
 struct Run {
-    k: usize,
+    k: Length,
     version: usize,
     facts: Facts,
 }
@@ -40,43 +39,38 @@ fn is_walked(
     plain_p: &mut [u8],
     plain_journal: &mut [u8],
     steps: usize,
-) -> bool
-    requires { run.k ≤ most_length }
-{
+) -> bool {
     fillings::fill_vectors(plain_z);
     fillings::fill_predicates(plain_p);
-    if !plain::walk(
+    let version = run.version as u64;
+    let walked = plain::walk(
         run.k,
-        run.version as u64,
+        version,
         run.facts,
         plain_z,
         plain_p,
         program,
         plain_journal,
         steps,
-    ) {
-        return false;
-    }
-    parts::same_bytes(plain_z, z)
+    );
+    walked
+        && parts::same_bytes(plain_z, z)
         && parts::same_bytes(plain_p, p)
         && parts::same_bytes(plain_journal, journal)
 }
 
 // Whether the bytes are those of a plain walk of so many words.
-fn is_plain(run: Run, z: &[u8], p: &[u8], program: &[u8], journal: &[u8], steps: usize) -> bool
-    requires { run.k ≤ most_length }
-{
+fn is_plain(run: Run, z: &[u8], p: &[u8], program: &[u8], journal: &[u8], steps: usize) -> bool {
     let mut plain_z = [0u8; fillings::MOST_VECTORS];
     let mut plain_p = [0u8; fillings::MOST_PREDICATES];
     let mut plain_journal = [0u8; entries::MOST];
     let z_end = z.len();
     let p_end = p.len();
     let room = journal.len();
-    if z_end <= fillings::MOST_VECTORS
+    z_end <= fillings::MOST_VECTORS
         && p_end <= fillings::MOST_PREDICATES
         && room <= entries::MOST
-    {
-        return is_walked(
+        && is_walked(
             run,
             z,
             p,
@@ -86,9 +80,7 @@ fn is_plain(run: Run, z: &[u8], p: &[u8], program: &[u8], journal: &[u8], steps:
             &mut plain_p[..p_end],
             &mut plain_journal[..room],
             steps,
-        );
-    }
-    false
+        )
 }
 
 // Shows whether a run's bytes are those of the plain walk.
@@ -109,17 +101,17 @@ fn show_steps(
     program: &[u8],
     journal: &mut [u8],
     directions: &[u8],
-) -> io::Result<()>
-    requires { run.k ≤ most_length }
-{
-    journal::fresh(run.k, run.version, journal);
-    let made = travel::travel(run.k, run.facts, z, p, program, journal, directions);
+) -> io::Result<()> {
+    let _ = journal::fresh(run.k.units, run.version, journal);
+    let core = Core {
+        k: run.k.units,
+        facts: run.facts,
+    };
+    let made = travel::travel(core, z, p, program, journal, directions);
     show_figure(rt, made.forward as u64)?;
     show_figure(rt, made.back as u64)?;
-    let mut same = false;
-    if made.back <= made.forward {
-        same = is_plain(run, z, p, program, journal, made.forward - made.back);
-    }
+    let same = made.back <= made.forward
+        && is_plain(run, z, p, program, journal, made.forward - made.back);
     show_same(rt, same)
 }
 
@@ -130,9 +122,7 @@ fn show_files(
     z: &mut [u8],
     p: &mut [u8],
     journal: &mut [u8],
-) -> io::Result<()>
-    requires { run.k ≤ most_length }
-{
+) -> io::Result<()> {
     let mut program = [0u8; Length::WORD_BYTES * Length::MOST_WORDS];
     let mut directions = [0u8; DIRECTIONS];
     fillings::fill_words(&mut program);
@@ -147,32 +137,27 @@ fn show_filled(
     z: &mut [u8],
     p: &mut [u8],
     journal: &mut [u8],
-) -> io::Result<()>
-    requires { run.k ≤ most_length }
-{
+) -> io::Result<()> {
     fillings::fill_vectors(z);
     fillings::fill_predicates(p);
     show_files(rt, run, z, p, journal)
 }
 
 // Shows a run over the bytes of a journal.
-fn show_journal(rt: &impl Print, run: Run, journal: &mut [u8]) -> io::Result<()>
-    requires { run.k ≤ most_length }
-{
-    let length = Length { k: run.k };
-    let vectors = length.vector_file();
-    let predicates = length.predicate_file();
+fn show_journal(rt: &impl Print, run: Run, journal: &mut [u8]) -> io::Result<()> {
+    let vectors = run.k.vector_file();
+    let predicates = run.k.predicate_file();
     let mut z = [0u8; fillings::MOST_VECTORS];
     let mut p = [0u8; fillings::MOST_PREDICATES];
     show_filled(rt, run, &mut z[..vectors], &mut p[..predicates], journal)
 }
 
 // Shows a run at a length on a core whose facts a byte tells, with a journal of a version and of so many bytes.
-fn show_run(rt: &impl Print, k: usize, version: usize, byte: u8, room: usize) -> io::Result<()>
-    requires { (k ≤ most_length) × (room ≤ most_journal) }
+fn show_run(rt: &impl Print, k: Length, version: usize, byte: u8, room: usize) -> io::Result<()>
+    requires { room ≤ most_journal }
 {
     let mut journal = [0u8; entries::MOST];
-    show_figure(rt, k as u64)?;
+    show_figure(rt, k.units as u64)?;
     show_figure(rt, version as u64)?;
     show_figure(rt, byte as u64)?;
     show_figure(rt, room as u64)?;
@@ -182,10 +167,8 @@ fn show_run(rt: &impl Print, k: usize, version: usize, byte: u8, room: usize) ->
 
 // Shows runs at a length on a core with all facts, with a journal of no entry, of one entry less a byte, of one entry, and of the most bytes; and with
 // the most bytes of the former version, where a run is held up before the first word that makes a predicate.
-fn show_length(rt: &impl Print, k: usize) -> io::Result<()>
-    requires { k ≤ most_length }
-{
-    let entry = plain::HEADER + plain::NUMBER + Length { k }.vector_bytes();
+fn show_length(rt: &impl Print, k: Length) -> io::Result<()> {
+    let entry = plain::HEADER + plain::NUMBER + k.vector_bytes();
     show_run(rt, k, entries::CURRENT_VERSION, facts::ALL, plain::HEADER)?;
     show_run(rt, k, entries::CURRENT_VERSION, facts::ALL, entry - 1)?;
     show_run(rt, k, entries::CURRENT_VERSION, facts::ALL, entry)?;
@@ -195,7 +178,13 @@ fn show_length(rt: &impl Print, k: usize) -> io::Result<()>
 
 // Shows a run on a core whose facts a byte tells, with room for every step.
 fn show_core(rt: &impl Print, byte: u8) -> io::Result<()> {
-    show_run(rt, 4, entries::CURRENT_VERSION, byte, entries::MOST)
+    show_run(
+        rt,
+        Length { units: 4 },
+        entries::CURRENT_VERSION,
+        byte,
+        entries::MOST,
+    )
 }
 
 // Shows runs on five cores: each is held up before the first word that its core does not accept, and the last core accepts all of them.
@@ -208,8 +197,8 @@ fn show_cores(rt: &impl Print) -> io::Result<()> {
 }
 
 fn main(rt: HostRuntime) -> io::Result<()> {
-    show_length(&rt, Length::least().k)?;
-    show_length(&rt, 4)?;
-    show_length(&rt, Length::most().k)?;
+    show_length(&rt, Length::least())?;
+    show_length(&rt, Length { units: 4 })?;
+    show_length(&rt, Length::most())?;
     show_cores(&rt)
 }

@@ -1,6 +1,6 @@
 -- What the program's counts and what a failed read leaves are, in bytes that are written out: what holds, and what is shut out.
 -- Assumes nothing.
-use Rattle.std.proofs.Common.{◌≡◌, ℕ, ◌≤◌, zero, suc, [], ◌∷◌, Some, refl, arith, length, take}
+use Rattle.std.proofs.Common.{zero, suc, [], ◌∷◌, Some, refl, arith}
 use Rattle.walk.specs.Counts.{IsPrefixLen, TakenInFront}
 
 -- two of three bytes, and four of three

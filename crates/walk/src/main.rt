@@ -38,8 +38,7 @@ fn write_walk(output: &mut [u8], input: &[u8]) -> usize
     ensures put { Put output.old 0 (output_of input.now) output.new result }
     ensures prefix_len { IsPrefixLen result output.new }
 {
-    let written = walks::write_output(output, input);
-    written.value as usize
+    walks::write_output(output, input).unwrap_or(0)
 }
 
 // Reads a session and writes its walk: of an input that is known, all that is written is known.

@@ -14,8 +14,8 @@ use Rattle.registers.specs.Register.{entry_number}
 use Rattle.registers.specs.State.{State, state}
 use Rattle.words.specs.Decode.{decoded, number_of, fields_of}
 use Rattle.words.specs.declared.Fields.{Fields}
-use Rattle.words.specs.declared.Decoded.{Decoded}
-use Rattle.words.specs.declared.Decoded.TheVariants.{Unknown, Undefined, Word}
+use Rattle.words.specs.Decode.{Decoded}
+use Rattle.words.specs.Decode.{Unknown, Undefined, Word}
 use Rattle.cores.specs.Core.{decoded_on}
 use Rattle.cores.proofs.Answers.{core_decodes}
 use Rattle.programs.specs.Word.{word_at, words_of}
@@ -29,7 +29,7 @@ use Rattle.journal.specs.Left.{Core, Buffers}
 use Rattle.steps.specs.Calls.{word_now, stepped}
 use Rattle.steps.proofs.Accepted.{executable, step_accepted}
 use Rattle.travel.proofs.Undone.{step_room}
-use Rattle.session.specs.declared.Session.{Session}
+use Rattle.session.specs.Body.{Session}
 use Rattle.session.specs.Body.{vector_part, predicate_part, program_part}
 use Rattle.session.specs.Layout.{session_of}
 use Rattle.session.proofs.Reading.{session_parts}

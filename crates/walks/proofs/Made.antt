@@ -23,7 +23,7 @@ use Rattle.operands.specs.Operands.{letter_of}
 use Rattle.names.specs.Text.{key_of, name_of, text_of}
 use Rattle.made.specs.Made.{made_byte, made_bytes}
 use Rattle.meaning.specs.Execute.{target_of, source_of, governing_of, effect_of}
-use Rattle.session.specs.declared.Session.{Session}
+use Rattle.session.specs.Body.{Session}
 use Rattle.session.specs.Body.{files_place, body_of}
 use Rattle.session.specs.Layout.{session_of}
 use Rattle.lines.specs.Line.{hex_of, with_newline, step_line}

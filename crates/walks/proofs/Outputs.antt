@@ -14,7 +14,7 @@ use lib.Seq.{take-length, take_at}
 use borrow.Author.Tests.{ltb-false, le-leb}
 use Rattle.machine.specs.Size.{most_words, is_legal}
 use Rattle.machine.specs.Refusal.{DONE, OUT, in_order, First, refused, unless_refused}
-use Rattle.machine.specs.declared.Answer.{Answer}
+use Rattle.machine.specs.Refusal.{Answer}
 use Rattle.machine.proofs.Tests.{first_exactly, unless_refused_lem}
 use Rattle.digits.specs.Digits.{digits_in, width_within, decimal_width}
 use Rattle.digits.proofs.Puts.{put_length}
@@ -29,7 +29,7 @@ use Rattle.journal.proofs.Accepted.{fresh_accepts, fresh_done}
 use Rattle.steps.specs.Calls.{stepped, Stepped}
 use Rattle.steps.proofs.Accepted.{step_accepted}
 use Rattle.travel.proofs.Undone.{step_room}
-use Rattle.session.specs.declared.Session.{Session}
+use Rattle.session.specs.Body.{Session}
 use Rattle.session.specs.Body.{program_part}
 use Rattle.session.specs.Layout.{session_of}
 use Rattle.lines.specs.Line.{most_line, session_line, Written}

@@ -16,7 +16,7 @@ use Rattle.machine.proofs.Tests.{first_after}
 use Rattle.registers.specs.Register.{entry_number}
 use Rattle.registers.specs.State.{Sized}
 use Rattle.words.specs.Decode.{number_of, fields_of, word_tests}
-use Rattle.words.specs.declared.Decoded.{Decoded}
+use Rattle.words.specs.Decode.{Decoded}
 use Rattle.cores.specs.Core.{decoded_on}
 use Rattle.programs.specs.Word.{word_at, words_of}
 use Rattle.meaning.specs.Execute.{target_of}
@@ -32,7 +32,7 @@ use Rattle.journal.specs.Left.{Core, Buffers, Left}
 use Rattle.steps.specs.Calls.{word_now, fields_now, past_tests, stepped}
 use Rattle.steps.proofs.Accepted.{step_number, step_accepted, step_refused}
 use Rattle.travel.proofs.Undone.{step_room}
-use Rattle.session.specs.declared.Session.{Session}
+use Rattle.session.specs.Body.{Session}
 use Rattle.session.specs.Body.{program_part, Parts}
 use Rattle.session.specs.Layout.{session_of}
 use Rattle.session.proofs.Reading.{session_parts}

@@ -10,7 +10,7 @@ use lib.ListN.{length}
 use borrow.Author.Tests.{le-ltb}
 use Rattle.machine.specs.Size.{is_program}
 use Rattle.machine.specs.Refusal.{DONE, unless_refused}
-use Rattle.machine.specs.declared.Answer.{Answer}
+use Rattle.machine.specs.Refusal.{Answer}
 use Rattle.machine.proofs.Checks.{legal_least, legal_most}
 use Rattle.machine.proofs.Tests.{unless_refused_lem}
 use Rattle.facts.specs.declared.Facts.{Facts}

@@ -6,7 +6,7 @@ use native.Mathlib.Omega.{arith}
 use lib.ListN.{length}
 use borrow.Author.Tests.{le-ltb}
 use Rattle.machine.specs.Refusal.{DONE}
-use Rattle.machine.specs.declared.Answer.{Answer}
+use Rattle.machine.specs.Refusal.{Answer}
 use Rattle.digits.specs.Put.{Put}
 use Rattle.lines.specs.Line.{Written}
 use Rattle.lines.proofs.Lines.{written_put}

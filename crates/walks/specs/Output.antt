@@ -1,18 +1,18 @@
 -- What a walk prints: for a session a line for each step until one is refused, and for other bytes the number SESSION.
-use Rattle.std.specs.Prelude.{ℕ, zero, suc, ◌+◌, ◌*◌, ◌-◌, ◌≤◌, ◌≡◌, List, [], ◌∷◌, ◌++◌, ltb, length}
+use Rattle.std.specs.Prelude.{Result, ℕ, zero, suc, ◌+◌, ◌*◌, ◌-◌, ◌≤◌, ◌≡◌, List, [], ◌∷◌, ◌++◌, ltb, length}
 use Rattle.machine.specs.Size.{most_words, Files}
-use Rattle.machine.specs.Refusal.{DONE, Test, out_test, refused, unless_refused}
-use Rattle.machine.specs.declared.Answer.{Answer}
+use Rattle.machine.specs.Refusal.{DONE, answered, Test, out_test, refused, unless_refused}
+use Rattle.machine.specs.Refusal.{Answer}
+use Rattle.machine.specs.declared.refusal.Refusal.{Refusal}
 use Rattle.registers.specs.State.{State, state}
 use Rattle.digits.specs.Put.{Put}
 use Rattle.entries.specs.Layout.{current_version, most_journal, entry_bytes, capacity_of, held_of, fresh_journal}
 use Rattle.journal.specs.Left.{Core, core_of, Buffers, buffers_of}
 use Rattle.steps.specs.Calls.{stepped, Stepped}
-use Rattle.session.specs.declared.Session.{Session}
+use Rattle.session.specs.Body.{Session}
 use Rattle.session.specs.Body.{vector_part, predicate_part, program_part}
 use Rattle.session.specs.Layout.{session_of}
 use Rattle.lines.specs.Line.{most_line, step_line, session_line, line_refused, Written}
-use Rattle.walks.specs.declared.Turn.{Turn}
 
 -- what is printed of a step at a position, which answered this number and left this state: its line, and past the program's end nothing
 unfoldable pub printed : Core → State → List ℕ → ℕ → ℕ → List ℕ
@@ -68,6 +68,15 @@ output_tests n = out_test (ltb n most_output) ∷ []
 -- a walk's whole output written at the front
 abbrev pub OutputWritten : List ℕ → List ℕ → List ℕ → Answer → Type 0
 OutputWritten bytes old new r = Written (refused (output_tests (length old))) (output_of bytes) old new r
+
+-- what a step answered, and the place after its line
+pub record Turn : Type 0 where
+  pub number : ℕ
+  pub at : ℕ
+
+-- it, of a step's outcome
+abbrev pub turn_in : Result Unit Refusal → ℕ → Turn
+turn_in outcome at = record { number = answered outcome; at = at }
 
 -- a step taken, and what is printed of it written at a place
 pub record Turned (c : Core) (program : List ℕ) (b : Buffers) (position at : ℕ) (out : List ℕ) (r : Turn) (after : Buffers) (out-after : List ℕ) : Type 0 where

@@ -6,7 +6,7 @@ use Prim.Native.Nat.{ℕ, ◌+◌, ◌*◌, ◌/◌, ◌≤◌, ◌<◌}
 use mathlib.Core.Path.{◌≡◌, refl, sym, ◌∙◌, ap, ap₂}
 use mathlib.Core.Bool.{Bool, true, false, cond}
 use mathlib.Core.List.{List, ◌++◌, append_assoc}
-use native.Mathlib.Nat.{add_assoc, zero-mul, zero-add, add-mul, one-mul, mul-le-mul_right, div-le_self}
+use native.Mathlib.Nat.{add_assoc, zero-add, add-mul, one-mul, mul-le-mul_right}
 use native.Mathlib.Numerals.{add-one}
 use native.Mathlib.Omega.{arith}
 use borrow.Author.Tests.{ltb-true, ltb-false}
@@ -14,11 +14,11 @@ use lib.Dec.{ltb}
 use lib.ListN.{length, take, drop, length-append}
 use lib.IntN.{ℤ}
 use lib.Seq.{length-take-le, take_at}
-use Rattle.machine.specs.Size.{vectors, most_length, vector_bytes}
+use Rattle.machine.specs.Size.{vectors, vector_bytes}
 use Rattle.machine.proofs.Places.{place_within}
 use Rattle.parts.specs.Part.{part, with_part}
 use Rattle.parts.specs.Number.{bytes_of, bits_of}
-use Rattle.parts.proofs.Parts.{part_part, part_before, part_after, length_with, drop_with, with_same}
+use Rattle.parts.proofs.Parts.{part_part, part_before, part_after, length_with, drop_with}
 use Rattle.registers.specs.Register.{register_at, vector_of}
 use Rattle.registers.specs.State.{State, state}
 use Rattle.registers.specs.declared.Kind.TheVariants.{Vector}
@@ -39,11 +39,11 @@ use Rattle.meaning.specs.Terms.{Operands, Source, Operand1, Operand2, Old, opera
 use Rattle.meaning.specs.Meaning.{wide_terms}
 use Rattle.meaning.specs.Execute.{kind_written, operands_of, mask_of, integer_after, lane_written, executed}
 use Rattle.meaning.specs.Needs.{ExecutableAs}
-use Rattle.widens.specs.Needs.{WideLanes, WideTurn}
+use Rattle.widens.specs.Needs.{WideLanes}
 use Rattle.elements.proofs.Halves.{half_taken, element_same, half_same}
 use Rattle.registers.proofs.Padded.{padded_full}
 use Rattle.meaning.proofs.Effects.{source_field, source_below, operand_bytes, mask_bytes, executed_vectors}
-use Rattle.meaning.proofs.Sizes.{whole, k_most, wide_halves, vector_in, vector_length, vector_destination}
+use Rattle.meaning.proofs.Sizes.{whole, wide_halves, vector_in, vector_length, vector_destination}
 
 -- a part written right behind another is one part
 with_next : (a n m : ℕ) (e g l : List ℕ) → a + n + m ≤ length l → length e ≡ n → with_part (a + n) m g (with_part a n e l) ≡ with_part a (n + m) (e ++ g) l
@@ -178,12 +178,7 @@ module _ (wide : WideFamily) (f : Fields) (k : ℕ) (s : State) (x : ExecutableA
         operand
         ∙ sym (fed s e)
 
-    -- lane e can be written in that file
-    ahead : (ps : Parameters) (v : ℕ) (z : List ℕ) → ps ≡ (form_of f.row).parameters → v ≡ w → z ≡ file_after f k s e → WideTurn wide ps v e f k (state z s.p)
-    ahead ps v z parameters width is =
-        record { lanes = record { word = rw is (still e some); parameters = parameters; width = width }; inside = turn }
-
-    -- which makes one lane more
+    -- lane e written in that file makes one lane more
     after_next : (z : List ℕ) → z ≡ file_after f k s e → lane_written f k e (state z s.p) ≡ file_after f k s (e + 1)
     after_next z is =
         rw is
@@ -202,10 +197,7 @@ module _ (wide : WideFamily) (f : Fields) (k : ℕ) (s : State) (x : ExecutableA
             ∙ sym (bytes_residue w (width_legal f.size (size_in_lem x.word.fields)).1 (integer_after f k s e)))
             ∙ sym (rw (add-one e, lanes_snoc w 0 e (λ (i : ℕ). residue (bits_of w) (integer_after f k s i)), zero-add e))
 
-  -- before the first lane, and after the last
-  after_none : file_after f k s 0 ≡ s.z
-  after_none = rw (zero-mul w) (with_same (place f.d) 0 s.z)
-
+  -- after the last lane the word is executed
   after_all : file_after f k s (vector_bytes k / w) ≡ (executed f k s).z
   after_all =
       let vectors = ap kind_written x.is in
@@ -221,24 +213,9 @@ module _ (wide : WideFamily) (ps : Parameters) (f : Fields) (k w bytes : ℕ) (s
   counted : bytes / w ≡ vector_bytes k / width_of f.size
   counted = ap₂ (λ (n v : ℕ). n / v) all h.width
 
-  pub width_some : 0 < w
-  width_some = rw h.width (width_legal f.size (size_in_lem h.word.word.fields)).0
-
-  pub few_turns : bytes / w ≤ vector_bytes most_length
-  few_turns = omega (arith, div-le_self bytes w, k_most f k s h.word.word, all)
-
-  pub not_begun : s.z ≡ file_after f k s 0
-  not_begun = sym (after_none wide f k s h.word)
-
   module _ (e : ℕ) (z : List ℕ) (so_far : z ≡ file_after f k s e) where
-    pub turn_ahead : e < bytes / w → WideTurn wide ps w e f k (state z s.p)
-    turn_ahead turn = ahead wide f k s h.word e (omega (arith, counted)) ps w z h.parameters h.width so_far
-
     pub turn_done : e < bytes / w → lane_written f k e (state z s.p) ≡ file_after f k s (e + 1)
     turn_done turn = after_next wide f k s h.word e (omega (arith, counted)) z so_far
-
-    pub same_size : e ≤ bytes / w → length z ≡ length s.z
-    same_size some = ap length so_far ∙ length_after wide f k s h.word e (omega (arith, counted))
 
     pub all_done : e ≡ bytes / w → z ≡ (executed f k s).z
     all_done end = so_far ∙ ap (file_after f k s) (end ∙ counted) ∙ after_all wide f k s h.word

@@ -14,14 +14,15 @@ ghost use Rattle.meaning.specs.Execute.{lane_written, executed};
 ghost use Rattle.meaning.specs.Needs.{ExecutableAs};
 ghost use Rattle.widens.specs.Needs.{WideLanes, WideTurn};
 
+use machine::Length;
 use registers::Kind;
 use rows::{Parameters, WideFamily};
 use words::Fields;
 
 // Writes a number's low bytes to lane e of a register: they are lent on from the middle of the vector file, and only they are written.
-fn write_lane(k: usize, z: &mut [u8], d: usize, w: usize, e: usize, number: u64)
-    requires { InFile k Vector d z.old × (e * w + w ≤ vector_bytes k) }
-    ensures { z.new ≡ with_number (register_at k Vector d + e * w) w number z.old }
+fn write_lane(k: Length, z: &mut [u8], d: usize, w: usize, e: usize, number: u64)
+    requires { InFile k.units Vector d z.old × (e * w + w ≤ vector_bytes k.units) }
+    ensures { z.new ≡ with_number (register_at k.units Vector d + e * w) w number z.old }
 {
     let at = registers::register_at(k, Kind::Vector, d) + e * w;
     let end = at + w;
@@ -33,13 +34,13 @@ fn write_pairwise(
     parameters: Parameters,
     w: usize,
     f: Fields,
-    k: usize,
+    k: Length,
     z: &mut [u8],
     p: &[u8],
     e: usize,
 )
-    requires { WideTurn Pairwise parameters w e f k (state z.old p.now) }
-    ensures { z.new ≡ lane_written f k e (state z.old p.now) }
+    requires { WideTurn Pairwise parameters w e f k.units (state z.old p.now) }
+    ensures { z.new ≡ lane_written f k.units e (state z.old p.now) }
 {
     let mask = registers::register(k, Kind::Predicate, p, f.g);
     let first = registers::register(k, Kind::Vector, z, f.n);
@@ -53,13 +54,13 @@ fn write_widening(
     parameters: Parameters,
     w: usize,
     f: Fields,
-    k: usize,
+    k: Length,
     z: &mut [u8],
     p: &[u8],
     e: usize,
 )
-    requires { WideTurn Widening parameters w e f k (state z.old p.now) }
-    ensures { z.new ≡ lane_written f k e (state z.old p.now) }
+    requires { WideTurn Widening parameters w e f k.units (state z.old p.now) }
+    ensures { z.new ≡ lane_written f k.units e (state z.old p.now) }
 {
     let first = registers::register(k, Kind::Vector, z, f.n);
     let second = registers::register(k, Kind::Vector, z, f.m);
@@ -73,13 +74,13 @@ fn write_turn(
     parameters: Parameters,
     w: usize,
     f: Fields,
-    k: usize,
+    k: Length,
     z: &mut [u8],
     p: &[u8],
     e: usize,
 )
-    requires { WideTurn wide parameters w e f k (state z.old p.now) }
-    ensures { z.new ≡ lane_written f k e (state z.old p.now) }
+    requires { WideTurn wide parameters w e f k.units (state z.old p.now) }
+    ensures { z.new ≡ lane_written f k.units e (state z.old p.now) }
 {
     match wide {
         WideFamily::Pairwise => write_pairwise(parameters, w, f, k, z, p, e),
@@ -94,25 +95,18 @@ fn write_turns(
     parameters: Parameters,
     w: usize,
     f: Fields,
-    k: usize,
+    k: Length,
     z: &mut [u8],
     p: &[u8],
 )
-    requires { WideLanes wide parameters w f k (state z.old p.now) }
-    ensures { z.new ≡ (executed f k (state z.old p.now)).z }
+    requires { WideLanes wide parameters w f k.units (state z.old p.now) }
+    ensures { z.new ≡ (executed f k.units (state z.old p.now)).z }
 {
     let family = wide;
-    let own = Parameters {
-        signed: parameters.signed,
-        top: parameters.top,
-        wide: parameters.wide,
-        subtract: parameters.subtract,
-    };
+    let own = Parameters { ..parameters };
     let count = registers::register_bytes(k, Kind::Vector) / w;
-    let mut e = 0;
-    while e < count {
+    for e in 0..count {
         write_turn(family, own, w, f, k, z, p, e);
-        e += 1;
     }
 }
 
@@ -121,12 +115,12 @@ pub fn write_lanes(
     wide: WideFamily,
     parameters: Parameters,
     f: Fields,
-    k: usize,
+    k: Length,
     z: &mut [u8],
     p: &[u8],
 )
-    requires { ExecutableAs (Wide wide) f k (state z.old p.now) × (parameters ≡ (form_of f.row).parameters) }
-    ensures { z.new ≡ (executed f k (state z.old p.now)).z }
+    requires { ExecutableAs (Wide wide) f k.units (state z.old p.now) × (parameters ≡ (form_of f.row).parameters) }
+    ensures { z.new ≡ (executed f k.units (state z.old p.now)).z }
 {
     let w = lanes::width_of(f.size);
     match wide {

@@ -1,31 +1,48 @@
 -- The number that a word is answered with: UNKNOWN exactly where no row matches, UNDEFINED exactly where a row matches and its size is not
 -- allowed, DONE exactly where it is. Each public call's contract allows one result.
 -- Assumes nothing.
-use mathlib.Core.Path.{◌≡◌, refl, ◌∙◌, ap}
+use Rattle.std.specs.Prelude.{Result, Ok, Err}
+use mathlib.Core.Path.{◌≡◌, refl, sym, ◌∙◌, ap}
 use mathlib.Core.Bool.{Bool, true, false, cond}
 use mathlib.Core.Logic.{◌↔◌}
 use Prim.Native.Nat.{ℕ, ◌≤◌, ◌<◌}
 use native.Mathlib.Omega.{arith}
-use lib.Dec.{ltb}
+use lib.Dec.{eqb, ltb}
 use borrow.Author.Tests.{ltb-true, ltb-false}
-use Rattle.machine.specs.Refusal.{DONE, UNKNOWN, UNDEFINED}
+use Rattle.machine.specs.declared.refusal.Refusal.{Refusal}
+use Rattle.machine.specs.Refusal.{DONE, UNKNOWN, UNDEFINED, code, answered}
 use Rattle.machine.proofs.Tests.{one_result}
 use Rattle.rows.specs.Table.{rows, row_at, row_of, form_of, matches}
 use Rattle.words.specs.Sizes.{allows}
 use Rattle.words.specs.Field.{Counted}
-use Rattle.words.specs.Decode.{decoded, judged, fields_at, number_of, RowWith}
+use Rattle.words.specs.Decode.{decoded, decoding, judged, fields_at, number_of, pick_decoded, RowWith, Unknown, Undefined, Word}
 use Rattle.words.specs.declared.Fields.{Fields}
-use Rattle.words.specs.declared.Decoded.{Decoded}
+use Rattle.words.specs.Decode.{Decoded}
 use Rattle.rows.proofs.Rows.{row_matches, row_no_later}
 use Rattle.rows.proofs.OneRow.{row_found}
 use Rattle.words.proofs.Decoding.{decoded_unknown, decoded_judged}
 
 -- two results that the contract of a public call allows are the same
-pub decode_determined : (word : ℕ) (r s : Decoded) → r ≡ decoded word → s ≡ decoded word → r ≡ s
-decode_determined word = one_result (decoded word)
+pub decode_determined : (word : ℕ) (r s : Result Fields Refusal) → r ≡ decoding (decoded word) → s ≡ decoding (decoded word) → r ≡ s
+decode_determined word = one_result (decoding (decoded word))
 
-pub number_of_determined : (d : Decoded) (r s : ℕ) → r ≡ number_of d → s ≡ number_of d → r ≡ s
-number_of_determined d = one_result (number_of d)
+-- what decoding comes to has the number of what it is of, and is of nothing else
+pub decoding_number : (d : Decoded) → answered (decoding d) ≡ number_of d
+decoding_number Unknown = refl
+decoding_number Undefined = refl
+decoding_number (Word f) = refl
+
+pub decoding_tells : (d e : Decoded) → decoding d ≡ decoding e → d ≡ e
+decoding_tells d e same = sym (back d) ∙ ap of same ∙ back e
+  where
+    of : Result Fields Refusal → Decoded
+    of (Ok f) = Word f
+    of (Err r) = pick_decoded (eqb (code r) UNKNOWN) Unknown Undefined
+
+    back : (d : Decoded) → of (decoding d) ≡ d
+    back Unknown = refl
+    back Undefined = refl
+    back (Word f) = refl
 
 pub digits_determined : (n r s : ℕ) → Counted n r → Counted n s → r ≡ s
 digits_determined n r s a b = one_result n r s a.is b.is

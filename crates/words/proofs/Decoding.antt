@@ -16,7 +16,7 @@ use Rattle.words.specs.Decode.{decoded, judged, fields_at}
 use Rattle.words.specs.Field.{size_digits, register_digits, predicate_digits, naming_digits}
 use Rattle.words.specs.Field.{size_digits_in, source_digits, destination_digits, governing_digits, second_digits, q_digits, pattern_digits}
 use Rattle.words.specs.Encode.{InRange}
-use Rattle.words.specs.declared.Decoded.TheVariants.{Unknown, Undefined, Word}
+use Rattle.words.specs.Decode.{Unknown, Undefined, Word}
 use Rattle.words.specs.declared.Fields.{Fields}
 use Rattle.rows.specs.declared.Family.{Family}
 use Rattle.rows.specs.declared.Family.TheVariants.{Low, Wide, Made}

@@ -19,7 +19,7 @@ use Rattle.words.specs.Decode.{decoded, judged, fields_at}
 use Rattle.words.specs.Encode.{encoded, InRange}
 use Rattle.rows.specs.declared.Family.{Family}
 use Rattle.words.specs.declared.Fields.{Fields}
-use Rattle.words.specs.declared.Decoded.TheVariants.{Word}
+use Rattle.words.specs.Decode.{Word}
 use Rattle.rows.proofs.Digits.{and_all, and_below, field_below}
 use Rattle.rows.proofs.Every.{every, at_each}
 use Rattle.rows.proofs.Rows.{row_matches}

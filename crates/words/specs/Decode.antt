@@ -1,5 +1,7 @@
 -- What a word decodes to: UNKNOWN where no row matches, UNDEFINED where the row's size is not allowed, else its fields.
-use Rattle.std.specs.Prelude.{◌≡◌, ℕ, ◌<◌, Bool, true, false, List, [], ◌∷◌, eqb, ltb}
+use Rattle.std.specs.Prelude.{Result, Ok, Err, ◌≡◌, ℕ, ◌<◌, Bool, true, false, List, [], ◌∷◌, eqb, ltb}
+use Rattle.machine.specs.declared.refusal.Refusal.{Refusal}
+use Rattle.machine.specs.declared.refusal.Refusal.TheVariants as refusal
 use Rattle.machine.specs.Refusal.{DONE, UNKNOWN, UNDEFINED, Test, test}
 use Rattle.rows.specs.Digits.{field}
 use Rattle.rows.specs.Table.{rows, row_at, row_of, form_of, family_of, matches}
@@ -7,8 +9,12 @@ use Rattle.words.specs.Sizes.{allows}
 use Rattle.words.specs.Field.{size_place, source_place, destination_place, governing_place, second_place, q_place, pattern_place}
 use Rattle.words.specs.Field.{size_digits_in, source_digits, destination_digits, governing_digits, second_digits, q_digits, pattern_digits}
 use Rattle.words.specs.declared.Fields.{Fields}
-use Rattle.words.specs.declared.Decoded.{Decoded}
-use Rattle.words.specs.declared.Decoded.TheVariants.{Unknown, Undefined, Word}
+
+-- what a word is: no row's, of a row that does not allow its size, or accepted with its fields
+pub data Decoded : Type 0 where
+  Unknown : Decoded
+  Undefined : Decoded
+  Word : Fields → Decoded
 
 -- the fields of a word of the row at a place; a field that the row does not have is 0
 abbrev pub fields_at : ℕ → ℕ → Fields
@@ -41,6 +47,12 @@ abbrev pub number_of : Decoded → ℕ
 number_of Unknown = UNKNOWN
 number_of Undefined = UNDEFINED
 number_of (Word f) = DONE
+
+-- what decoding comes to: the fields, or the refusal
+abbrev pub decoding : Decoded → Result Fields Refusal
+decoding Unknown = Err refusal.Unknown
+decoding Undefined = Err refusal.Undefined
+decoding (Word f) = Ok f
 
 -- the tests of a word: no row matches it; its row does not allow its size
 abbrev pub word_tests : Decoded → List Test

@@ -6,10 +6,10 @@ ghost use Rattle.rows.specs.Digits.{field, word_digits};
 ghost use Rattle.rows.specs.Table.{family_of};
 ghost use Rattle.words.specs.Sizes.{within, most_reduced, allows_long, allows_low, allows_made, allows};
 ghost use Rattle.words.specs.Field.{size_digits, size_digits_in, source_digits, destination_digits, governing_digits, second_digits, q_digits, pattern_digits, Counted};
-ghost use Rattle.words.specs.Decode.{decoded, number_of, fields_at};
+ghost use Rattle.words.specs.Decode.{decoded, decoding, fields_at};
 
-use machine::refusal;
-use rows::{Family, Form, LowFamily, MadeFamily, ROWS, WideFamily};
+use machine::Refusal;
+use rows::{Family, Form, LowFamily, MadeFamily, WideFamily};
 
 pub mod place;
 
@@ -24,14 +24,6 @@ pub struct Fields {
     pub m: usize,
     pub q: usize,
     pub pattern: usize,
-}
-
-// What a word is: no row's, of a row that does not allow its size, or accepted with its fields.
-#[derive(Clone, Copy)]
-pub enum Decoded {
-    Unknown,
-    Undefined,
-    Word(Fields),
 }
 
 // How many digits a size has, a vector register's number, a predicate register's, a governing predicate's, and a pattern.
@@ -49,10 +41,7 @@ pub const NAMING_DIGITS: u32 = 5;
 fn is_within(least: usize, most: usize, size: usize) -> bool
     ensures { result ≡ within least most size }
 {
-    if size < least {
-        return false;
-    }
-    size <= most
+    (least..=most).contains(&size)
 }
 
 // Whether a long form allows a size: size:Q = '100' is UNDEFINED, and so is size = '11'.
@@ -230,31 +219,18 @@ fn fields_at(i: usize, family: Family, word: u32) -> Fields
     }
 }
 
-// What a word decodes to.
-pub fn decode(word: u32) -> Decoded
-    ensures { result ≡ decoded word }
+// The fields that a word decodes to; or UNKNOWN where no row matches, or UNDEFINED where its row does not allow its size.
+pub fn decode(word: u32) -> Result<Fields, Refusal>
+    ensures { result ≡ decoding (decoded word) }
 {
-    let i = rows::row_of(word);
-    if ROWS <= i {
-        return Decoded::Unknown;
-    }
+    let Some(i) = rows::row_of(word) else {
+        return Err(Refusal::Unknown);
+    };
     let form = rows::form_of(i);
-    let family = form.family;
-    let fields = fields_at(i, family, word);
+    let fields = fields_at(i, form.family, word);
     if allows_size(form, fields.q, fields.size) {
-        Decoded::Word(fields)
+        Ok(fields)
     } else {
-        Decoded::Undefined
-    }
-}
-
-// The number that is answered with what a word decodes to.
-pub fn number_of(decoded: Decoded) -> u8
-    ensures { result ≡ number_of decoded }
-{
-    match decoded {
-        Decoded::Unknown => refusal::UNKNOWN,
-        Decoded::Undefined => refusal::UNDEFINED,
-        Decoded::Word(_) => refusal::DONE,
+        Err(Refusal::Undefined)
     }
 }

@@ -11,4 +11,4 @@ width_most : (size : ℕ) → size < sizes → width_of size ≤ 8
 width_most = of_four (λ n. width_of n ≤ 8) (omega arith) (omega arith) (omega arith) (omega arith)
 
 pub family_bytes-requires : goal.family_bytes-requires
-family_bytes-requires c = rw c.width_of.ensures (width_most _ c.requires)
+family_bytes-requires c = rw c.width_of-w.ensures (width_most _ c.requires)

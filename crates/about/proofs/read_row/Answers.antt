@@ -7,10 +7,9 @@ use Rattle.rows.specs.Table.{rows, form_of}
 use Rattle.rows.specs.declared.Form.{Form}
 use Rattle.words.specs.Field.{source_digits, governing_digits, second_digits, q_digits, pattern_digits}
 use Rattle.cores.specs.Need.{need_of}
-use Rattle.about.specs.declared.About.{About}
 use Rattle.about.specs.declared.Operand.TheVariants.{First, Second, Destination}
 use Rattle.about.specs.Widths.{bytes_by_size}
-use Rattle.about.specs.About.{need_byte, reads_destination, writes_predicate, row_told, about_answer}
+use Rattle.about.specs.About.{need_byte, reads_destination, writes_predicate, About, row_told, about_answer}
 use Rattle.about.proofs.read_row.Goals as goal
 
 -- what is told of a row, from the parts that its form gives

@@ -36,10 +36,10 @@ put_entry-requires c =
       short = omega (
         arith,
         ap length c.register.ensures,
-        length_register a.k a.kind a.r a.file.now c.requires.register,
-        bytes_most a.k a.kind,
+        length_register a.k.units a.kind a.r a.file.now c.requires.register,
+        bytes_most a.k.units a.kind,
       );
-      inside = within a.k _ _ a.journal.now c.held_of-i.ensures c.entry_at-at.ensures c.requires.entry;
+      inside = within a.k.units _ _ a.journal.now c.held_of-i.ensures c.entry_at-at.ensures c.requires.entry;
     }
 
 pub put_count-requires : goal.put_count-requires
@@ -48,7 +48,7 @@ put_count-requires c = omega (arith, header_least (version_of c.args.journal.now
 pub returns : goal.returns
 returns c =
     let a = c.args in
-    appended a.k _ _ a.journal.now c.held_of-i.ensures c.entry_at-at.ensures c.entry_number-number.result c.register.result.now _ _ c.put_entry.ensures
+    appended a.k.units _ _ a.journal.now c.held_of-i.ensures c.entry_at-at.ensures c.entry_number-number.result c.register.result.now _ _ c.put_entry.ensures
     c.put_count.ensures
-    ∙ ap₂ (λ (number : ℕ) (old : List ℕ). pushed a.k (padded_entry a.k number old) a.journal.now) c.entry_number-number.ensures
+    ∙ ap₂ (λ (number : ℕ) (old : List ℕ). pushed a.k.units (padded_entry a.k.units number old) a.journal.now) c.entry_number-number.ensures
     c.register.ensures

@@ -13,15 +13,12 @@ fresh_bytes : (version k n : ℕ) (head cleared journal : List ℕ) → (layout_
     → journal ≡ fresh_journal version k n
 fresh_bytes version k n head cleared journal h named zeroed is = is ∙ rw (named, zeroed, drop_replicate count_at n 0) (sym (fresh_is version k n h))
 
-pub clear-requires : goal.clear-requires
-clear-requires c = omega (arith, header_least c.args.version, c.requires.1)
-
 pub overwrite-requires : goal.overwrite-requires
 overwrite-requires c =
     let long : length c.heading-heading.result ≡ count_at = rw c.heading-heading.ensures in
-    omega (arith, long, header_least c.args.version, c.requires.1)
+    omega (arith, long, header_least c.args.version, c.requires)
 
 pub returns : goal.returns
 returns c =
     let a = c.args in
-    fresh_bytes a.version a.k (length a.journal.now) _ _ _ c.requires.1 c.heading-heading.ensures c.clear.ensures c.overwrite.ensures
+    fresh_bytes a.version a.k.units (length a.journal.now) _ _ _ c.requires c.heading-heading.ensures c.clear.ensures c.overwrite.ensures

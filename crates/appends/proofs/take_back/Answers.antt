@@ -31,18 +31,18 @@ put_back-requires c =
     let a = c.args in
     record {
       sized = c.requires.sized;
-      inside = within a.k _ _ a.journal.now c.held_of-i.ensures c.entry_at-at.ensures c.requires.last;
-      register = rw (place a.k _ _ a.journal.now c.held_of-i.ensures c.entry_at-at.ensures) c.requires.register;
+      inside = within a.k.units _ _ a.journal.now c.held_of-i.ensures c.entry_at-at.ensures c.requires.last;
+      register = rw (place a.k.units _ _ a.journal.now c.held_of-i.ensures c.entry_at-at.ensures) c.requires.register;
     }
 
 pub clear_part-requires : goal.clear_part-requires
 clear_part-requires c =
-    let inside = within c.args.k _ _ c.args.journal.now c.held_of-i.ensures c.entry_at-at.ensures c.requires.last in
+    let inside = within c.args.k.units _ _ c.args.journal.now c.held_of-i.ensures c.entry_at-at.ensures c.requires.last in
     omega (arith, inside, c.entry_bytes.ensures)
 
 pub returns : goal.returns
 returns c =
     let a = c.args in
-    taken_back a.k _ _ a.journal.now c.held_of-i.ensures c.entry_at-at.ensures _ (state a.z.now a.p.now) _ _ _ c.entry_bytes.ensures c.put_back.ensures
+    taken_back a.k.units _ _ a.journal.now c.held_of-i.ensures c.entry_at-at.ensures _ (state a.z.now a.p.now) _ _ _ c.entry_bytes.ensures c.put_back.ensures
     c.clear_part.ensures
     c.put_count.ensures

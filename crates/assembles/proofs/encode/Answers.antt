@@ -1,6 +1,6 @@
 -- `encode` meets its contract: the parts are those of the definition, and none of the sums is too large.
 -- Assumes nothing.
-use Rattle.std.proofs.Common.{◌≡◌, ℕ, ◌+◌, ◌*◌, ◌%◌, ap, arith}
+use Rattle.std.proofs.Common.{◌≡◌, ℕ, ◌+◌, ◌*◌, ◌%◌, ap, ◌∙◌, arith}
 use Prim.Native.Nat.{◌^◌}
 use Rattle.rows.specs.Digits.{word_digits}
 use Rattle.rows.specs.Table.{row_value, line_value}
@@ -21,7 +21,7 @@ pub returns : goal.returns
 returns c =
     ap (λ (w : ℕ). w % 2 ^ word_digits)
     (encode_sum c.args.f _ _ _ _ _ _ _ _
-    (ap line_value c.row_at-entry.ensures)
+    (c.from-value.ensures ∙ ap line_value c.row_at-entry.ensures)
     c.placed-n.ensures
     c.placed-m.ensures
     c.placed-size.ensures

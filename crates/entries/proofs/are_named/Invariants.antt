@@ -1,10 +1,7 @@
 -- The entries passed have numbers that entries may have.
-use Rattle.std.proofs.Common.{◌≡◌, ◌≤◌, ◌-◌, true}
+use Rattle.std.proofs.Common.{◌≡◌, true}
 use Rattle.entries.specs.Layout.{greatest_of, are_named, first_entries}
 use Rattle.entries.proofs.are_named.Given as goal
 
 abbrev pub invariant-loop-i : goal.invariant-loop-i
-invariant-loop-i l = (l.i ≤ l.n) × (are_named (greatest_of l.journal) (first_entries l.k l.journal l.i) ≡ true)
-
-abbrev pub decreases-loop-i : goal.decreases-loop-i
-decreases-loop-i l = l.n - l.i
+invariant-loop-i l = are_named (greatest_of l.journal) (first_entries l.k.units l.journal l.i) ≡ true

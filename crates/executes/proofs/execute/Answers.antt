@@ -52,7 +52,7 @@ returns-in-Low c =
     let s = state c.args.z.now c.args.p.now in
     let is = family_is c.args.f.row _ _ c.form_of-form.ensures c.in-Low.is in
     executed_state _ _ s (ap kind_written is) _
-    (low_vectors c.args.f c.args.k s c.requires c.in-Low.low is c.low_bytes-bytes.ensures c.write_register.ensures)
+    (low_vectors c.args.f c.args.k.units s c.requires c.in-Low.low is c.low_bytes-bytes.ensures c.write_register.ensures)
 
 pub returns-in-Wide : goal.returns-in-Wide
 returns-in-Wide c =
@@ -62,4 +62,4 @@ returns-in-Wide c =
 pub returns-in-Made : goal.returns-in-Made
 returns-in-Made c =
     let is = family_is c.args.f.row _ _ c.form_of-form.ensures c.in-Made.is in
-    made_state c.args.f c.args.k (state c.args.z.now c.args.p.now) c.in-Made.made is c.lanes_for.ensures c.make.ensures
+    made_state c.args.f c.args.k.units (state c.args.z.now c.args.p.now) c.in-Made.made is c.lanes_for.ensures c.make.ensures

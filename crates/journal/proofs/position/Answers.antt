@@ -1,7 +1,7 @@
--- `position` meets its contract: a refusal comes with 0; past it the journal is well formed, and its position is the answer.
-use Rattle.std.proofs.Common.{sym, ◌∙◌}
+-- `position` meets its contract: past the check the journal is well formed, and its position is the answer.
+use Rattle.std.proofs.Common.{sym}
 use Rattle.journal.proofs.Accepted.{position_accepted}
 use Rattle.journal.proofs.position.Goals as goal
 
 pub position_of-requires : goal.position_of-requires
-position_of-requires c = (position_accepted _ _ (sym c.check_position-number.ensures ∙ c.if-number-ne-DONE.false)).formed.least
+position_of-requires c = (position_accepted _ _ (sym c.in_ok-check_position.ensures.number)).formed.least

@@ -1,4 +1,4 @@
--- The invariant: the bytes from i on are written. The measure is how many are left.
+-- The invariant: the bytes from i on are written.
 -- Assumes nothing.
 use Rattle.std.proofs.Common.{◌≤◌, length, drop}
 use Rattle.digits.specs.Put.{Put}
@@ -7,6 +7,3 @@ use Rattle.lines.proofs.put_hex.Given as goal
 
 abbrev pub invariant-loop-i : goal.invariant-loop-i
 invariant-loop-i l = (l.i ≤ length l.bytes) × Put l.fn.out l.at (hex_of (drop l.i l.bytes)) l.out l.next
-
-abbrev pub decreases-loop-i : goal.decreases-loop-i
-decreases-loop-i l = l.i

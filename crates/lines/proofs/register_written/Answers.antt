@@ -1,4 +1,4 @@
--- `register_written` meets its contract: an arm's kind is the one that the word writes, so the register that it lends from the file of that kind is the word's.
+-- `register_written` meets its contract: the kind is the one that the word writes, so the register of that kind is the word's.
 -- Assumes nothing.
 use Rattle.std.proofs.Common.{ℕ, ◌≡◌, sym, ◌∙◌, ap}
 use Rattle.rows.specs.Table.{family_of}
@@ -14,8 +14,7 @@ use Rattle.lines.proofs.register_written.Goals as goal
 reads : (k : ℕ) (f : Fields) (s : State) (arm : Kind) → arm ≡ kind_written (family_of f.row) → read k (register_from arm f.d) s ≡ read k (target_of f) s
 reads k f s arm is = ap (λ (r : Register). read k r s) (sym (target_of_kind f arm (sym is)))
 
-pub returns-in-Vector : goal.returns-in-Vector
-returns-in-Vector c = let a = c.args in c.register.ensures ∙ reads a.k a.f (state a.z.now a.p.now) _ c.in-Vector.ensures
-
-pub returns-in-Predicate : goal.returns-in-Predicate
-returns-in-Predicate c = let a = c.args in c.register-in-Predicate.ensures ∙ reads a.k a.f (state a.z.now a.p.now) _ c.in-Predicate.ensures
+pub returns : goal.returns
+returns c =
+    let files = c.args.files in
+    c.register.ensures ∙ reads files.k.units c.args.f (state files.z.now files.p.now) _ c.kind_written.ensures

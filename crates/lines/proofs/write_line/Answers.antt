@@ -1,30 +1,42 @@
 -- `write_line` meets its contract: what the line is asked of refuses, or the word of a step that is told done, or the line is written.
 -- Assumes nothing.
-use Rattle.std.proofs.Common.{ℕ, List, ◌≡◌, ◌≤◌, sym, ap, arith, length}
+use Rattle.std.proofs.Common.{ℕ, List, ◌≡◌, ◌≤◌, refl, sym, ap, ◌∙◌, Result, Ok, arith, length}
 use native.Mathlib.Nat.{le_trans}
 use Rattle.facts.specs.declared.Facts.{Facts}
 use Rattle.machine.specs.Size.{most_length, most_words, vector_bytes}
-use Rattle.machine.specs.Refusal.{DONE, UNKNOWN, UNDEFINED, refused}
+use Rattle.machine.specs.declared.refusal.Refusal.{Refusal}
+use Rattle.machine.specs.Refusal.{DONE, code, answered, answer_of, refused}
+use Rattle.machine.proofs.Codes.{passed_on, code_not_done}
 use Rattle.machine.proofs.Checks.{legal_most}
 use Rattle.registers.specs.State.{State, state, read}
 use Rattle.registers.proofs.Places.{bytes_few}
 use Rattle.registers.proofs.States.{read_most}
 use Rattle.words.specs.Decode.{decoded, number_of}
 use Rattle.words.specs.declared.Fields.{Fields}
-use Rattle.words.specs.declared.Decoded.{Decoded}
-use Rattle.words.specs.declared.Decoded.TheVariants.{Unknown, Undefined, Word}
+use Rattle.words.specs.Decode.{Decoded}
+use Rattle.words.specs.Decode.{Word, decoding}
+use Rattle.words.proofs.Answers.{decoding_number, decoding_tells}
 use Rattle.words.proofs.Encoding.{decoded_in_range}
 use Rattle.cores.specs.Core.{decoded_on}
 use Rattle.cores.proofs.Answers.{core_decodes}
 use Rattle.meaning.specs.Execute.{target_of}
 use Rattle.meaning.specs.Needs.{Executable}
-use Rattle.programs.specs.declared.Next.{Next}
-use Rattle.programs.specs.Word.{word_at}
-use Rattle.lines.specs.Line.{asked_word, placed_tests, line_refused, refused_line, accepted_line}
+use Rattle.programs.specs.Word.{Next, next_in, word_at}
+use Rattle.std.specs.Result.{IsErrAnd}
+use Rattle.lines.specs.Line.{Written, asked_word, placed_tests, line_refused, refused_line, accepted_line}
 use Rattle.lines.proofs.Lines.{written_refused, written_done}
 use Rattle.lines.proofs.Longest.{refused_most, accepted_most, accepted_room}
-use Rattle.lines.proofs.Placed.{Ready, ready, early, found_right, found_word, refused_passes, word_decides, refused_line_lem, accepted_line_lem}
+use Rattle.lines.proofs.Placed.{Ready, ready, early, found_right, found_word, early_files, refused_passes, word_decides, refused_line_lem, accepted_line_lem}
 use Rattle.lines.proofs.write_line.Goals as goal
+
+-- a refusal that is passed on is the line's, where its number is
+module _ (refusal : ℕ) (line old : List ℕ) (r : Result ℕ Refusal) (e : Refusal) where
+  refuses : IsErrAnd r (λ f. f ≡ e) → code e ≡ refusal → Written refusal line old old (answer_of r)
+  refuses passed is = written_refused refusal line old (answer_of r) (code e) (ap answer_of (passed_on r e passed)) is (code_not_done e)
+
+-- what is asked has the number that is answered
+number_of_next : (a b : Next) → a ≡ b → a.number ≡ b.number
+number_of_next a b e = ap (λ (m : Next). m.number) e
 
 -- a register that is read is not longer than the longest
 few : (k : ℕ) (f : Fields) (s : State) (register : List ℕ) → Executable f k s → register ≡ read k (target_of f) s → length register ≤ vector_bytes most_length
@@ -64,83 +76,89 @@ module _ (k : ℕ) (s : State) (program : List ℕ) (position n : ℕ) (next : N
   roomy facts f is register shown =
       omega (arith, known.room, few k f s register (executes facts f is) shown, accepted_most position inside next.word register)
 
-pub returns-then-found-ne-DONE : goal.returns-then-found-ne-DONE
-returns-then-found-ne-DONE c =
+pub returns-in_err-files : goal.returns-in_err-files
+returns-in_err-files c =
     let a = c.args in
-    let next = c.placed_word-found.result in
-    written_refused _ _ _ c.refuse.result next.number c.refuse.ensures
-    (early a.k (state a.z.now a.p.now) a.program.now a.position (length a.out.now) a.facts a.number _
-    (ap (λ (m : Next). m.number) c.placed_word-found.ensures) c.if-found-ne-DONE.true)
-    c.if-found-ne-DONE.true
+    refuses _ _ _ _ _ c.from_residual.ensures.1
+    (early_files a.core.k (state a.z.now a.p.now) a.program.now a.position (length a.out.now) a.core.facts a.number _ c.in_err-files.ensures.number (code_not_done _))
+
+pub returns-in_err-found : goal.returns-in_err-found
+returns-in_err-found c =
+    let a = c.args in
+    let lent = c.in_ok-files.ensures.files in
+    let asked = rw (lent.0, lent.1, lent.2) at c.in_err-found.ensures in
+    refuses _ _ _ _ _ c.from_residual-in_err-found.ensures.1
+    (early a.core.k (state a.z.now a.p.now) a.program.now a.position (length a.out.now) a.core.facts a.number _ (number_of_next _ _ asked) (code_not_done _))
 
 pub put_refused-requires : goal.put_refused-requires
 put_refused-requires c =
     let a = c.args in
-    le_trans (refused_most _ _ _)
-    (known a.k (state a.z.now a.p.now) a.program.now a.position (length a.out.now) _ c.placed_word-found.ensures c.if-found-ne-DONE.false).room
+    let lent = c.in_ok-files.ensures.files in
+    let found = rw (lent.0, lent.1, lent.2) at c.in_ok-found.ensures in
+    le_trans (refused_most _ _ _) (known a.core.k (state a.z.now a.p.now) a.program.now a.position (length a.out.now) _ found refl).room
 
 pub returns-then-number : goal.returns-then-number
 returns-then-number c =
     let a = c.args in
     let s = state a.z.now a.p.now in
     let n = length a.out.now in
-    let next = c.placed_word-found.result in
-    let found = c.placed_word-found.ensures in
-    let right = c.if-found-ne-DONE.false in
+    let lent = c.in_ok-files.ensures.files in
+    let found = rw (lent.0, lent.1, lent.2) at c.in_ok-found.ensures in
+    let next = next_in a.position (Ok c.in_ok-found.found) in
     let other = c.if-number.true in
-    written_done _ _ _ c.done.result _ (refused_line a.position a.number next.word) _ c.done.ensures
-    (refused_passes a.k s a.program.now a.position n a.facts a.number (placed a.k s a.program.now a.position n next found right) other)
-    (refused_line_lem a.k s a.program.now a.position a.number next.word (is_word a.k s a.program.now a.position n next found right) other)
-    (le_trans (refused_most a.position a.number next.word) (known a.k s a.program.now a.position n next found right).room)
+    written_done _ _ _ _ _ (refused_line a.position a.number next.word) _ refl
+    (refused_passes a.core.k s a.program.now a.position n a.core.facts a.number (placed a.core.k s a.program.now a.position n next found refl) other)
+    (refused_line_lem a.core.k s a.program.now a.position a.number next.word (is_word a.core.k s a.program.now a.position n next found refl) other)
+    (le_trans (refused_most a.position a.number next.word) (known a.core.k s a.program.now a.position n next found refl).room)
     c.put_refused.ensures
+
+pub returns-in_err-fields : goal.returns-in_err-fields
+returns-in_err-fields c =
+    let a = c.args in
+    let lent = c.in_ok-files.ensures.files in
+    let found = rw (lent.0, lent.1, lent.2) at c.in_ok-found.ensures in
+    let word = decoded_on a.core.facts c.in_ok-found.found.word in
+    refuses _ _ _ _ _ c.from_residual-in_err-fields.ensures.1
+    (ap answered c.in_err-fields.ensures
+    ∙ decoding_number word
+    ∙ sym (decides a.core.k (state a.z.now a.p.now) a.program.now a.position (length a.out.now) _ found refl a.core.facts a.number word c.if-number.false refl))
+
+-- the fields of an accepted word are what it decodes to on the core
+fields_of_word : (facts : Facts) (word : ℕ) (f : Fields) → Ok f ≡ decoding (decoded_on facts word) → Word f ≡ decoded_on facts word
+fields_of_word facts word f e = decoding_tells (Word f) (decoded_on facts word) e
 
 pub register_written-register-requires : goal.register_written-register-requires
 register_written-register-requires c =
-    let a = c.args in
-    executes a.k (state a.z.now a.p.now) a.program.now a.position (length a.out.now) c.placed_word-found.result c.placed_word-found.ensures
-    c.if-found-ne-DONE.false a.facts c.in-Word.fields c.in-Word.ensures
+    decoded_in_range _ _ (core_decodes c.args.core.facts c.in_ok-found.found.word _ (sym (fields_of_word _ _ _ c.in_ok-fields.ensures)))
 
 pub put_accepted-requires : goal.put_accepted-requires
 put_accepted-requires c =
     let a = c.args in
     let s = state a.z.now a.p.now in
     let n = length a.out.now in
-    let next = c.placed_word-found.result in
-    let found = c.placed_word-found.ensures in
-    let right = c.if-found-ne-DONE.false in (
-      le_trans (accepted_room a.position (inside a.k s a.program.now a.position n next found right))
-          (known a.k s a.program.now a.position n next found right).room,
-      roomy a.k s a.program.now a.position n next found right a.facts c.in-Word.fields c.in-Word.ensures _ c.register_written-register.ensures,
+    let lent = c.in_ok-files.ensures.files in
+    let found = rw (lent.0, lent.1, lent.2) at c.in_ok-found.ensures in
+    let next = next_in a.position (Ok c.in_ok-found.found) in
+    let shown = rw (lent.0, lent.1, lent.2) at c.register_written-register.ensures in (
+      le_trans (accepted_room a.position (inside a.core.k s a.program.now a.position n next found refl))
+          (known a.core.k s a.program.now a.position n next found refl).room,
+      roomy a.core.k s a.program.now a.position n next found refl a.core.facts c.in_ok-fields.fields (fields_of_word _ _ _ c.in_ok-fields.ensures) _ shown,
     )
 
-pub returns-in-Unknown : goal.returns-in-Unknown
-returns-in-Unknown c =
-    let a = c.args in
-    written_refused _ _ _ c.refuse-in-Unknown.result UNKNOWN c.refuse-in-Unknown.ensures
-    (sym (decides a.k (state a.z.now a.p.now) a.program.now a.position (length a.out.now) c.placed_word-found.result c.placed_word-found.ensures
-    c.if-found-ne-DONE.false a.facts a.number Unknown c.if-number.false c.in-Unknown.ensures))
-    (λ e. omega arith)
-
-pub returns-in-Undefined : goal.returns-in-Undefined
-returns-in-Undefined c =
-    let a = c.args in
-    written_refused _ _ _ c.refuse-in-Undefined.result UNDEFINED c.refuse-in-Undefined.ensures
-    (sym (decides a.k (state a.z.now a.p.now) a.program.now a.position (length a.out.now) c.placed_word-found.result c.placed_word-found.ensures
-    c.if-found-ne-DONE.false a.facts a.number Undefined c.if-number.false c.in-Undefined.ensures))
-    (λ e. omega arith)
-
-pub returns-in-Word : goal.returns-in-Word
-returns-in-Word c =
+pub returns : goal.returns
+returns c =
     let a = c.args in
     let s = state a.z.now a.p.now in
     let n = length a.out.now in
-    let next = c.placed_word-found.result in
-    let found = c.placed_word-found.ensures in
-    let right = c.if-found-ne-DONE.false in
+    let lent = c.in_ok-files.ensures.files in
+    let found = rw (lent.0, lent.1, lent.2) at c.in_ok-found.ensures in
+    let next = next_in a.position (Ok c.in_ok-found.found) in
     let register = c.register_written-register in
-    written_done _ _ _ c.done-in-Word.result _ (accepted_line a.position next.word register.result.now) _ c.done-in-Word.ensures
-    (decides a.k s a.program.now a.position n next found right a.facts a.number (Word c.in-Word.fields) c.if-number.false c.in-Word.ensures)
-    (accepted_line_lem a.k s a.program.now a.position a.number next.word (is_word a.k s a.program.now a.position n next found right) c.if-number.false
-    c.in-Word.fields (accepted a.k s a.program.now a.position n next found right a.facts c.in-Word.fields c.in-Word.ensures) _ register.ensures)
-    (roomy a.k s a.program.now a.position n next found right a.facts c.in-Word.fields c.in-Word.ensures _ register.ensures)
+    let shown = rw (lent.0, lent.1, lent.2) at register.ensures in
+    let word = fields_of_word _ _ _ c.in_ok-fields.ensures in
+    written_done _ _ _ _ _ (accepted_line a.position next.word register.result.now) _ refl
+    (decides a.core.k s a.program.now a.position n next found refl a.core.facts a.number (Word c.in_ok-fields.fields) c.if-number.false word)
+    (accepted_line_lem a.core.k s a.program.now a.position a.number next.word (is_word a.core.k s a.program.now a.position n next found refl) c.if-number.false
+    c.in_ok-fields.fields (accepted a.core.k s a.program.now a.position n next found refl a.core.facts c.in_ok-fields.fields word) _ shown)
+    (roomy a.core.k s a.program.now a.position n next found refl a.core.facts c.in_ok-fields.fields word _ shown)
     c.put_accepted.ensures

@@ -11,7 +11,7 @@ use Rattle.lines.proofs.write_session_refusal.Goals as goal
 pub returns-then-out-lt-MOST_LINE : goal.returns-then-out-lt-MOST_LINE
 unfolding width_within decimal_width
 returns-then-out-lt-MOST_LINE c =
-    written_refused _ _ _ c.refuse.result OUT c.refuse.ensures (rw (lt-ltb _ _ c.if-out-lt-MOST_LINE.true)) (λ e. omega arith)
+    written_refused _ _ _ _ OUT refl (rw (lt-ltb _ _ c.if-out-lt-MOST_LINE.true)) (λ e. omega arith)
 
 pub put_field-requires : goal.put_field-requires
 unfolding digits_in width_within decimal_width
@@ -20,4 +20,4 @@ put_field-requires c = omega arith
 pub returns : goal.returns
 unfolding session_line digits_in width_within decimal_width
 returns c =
-    written_done _ _ _ c.done.result _ session_line _ c.done.ensures (rw (le-ltb _ _ c.if-out-lt-MOST_LINE.false)) refl (omega arith) c.put_field.ensures
+    written_done _ _ _ _ _ session_line _ refl (rw (le-ltb _ _ c.if-out-lt-MOST_LINE.false)) refl (omega arith) c.put_field.ensures

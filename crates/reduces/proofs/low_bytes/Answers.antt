@@ -52,22 +52,22 @@ source f k z p r is = is ∙ sym (operand_bytes f k (state z p) Operand1)
 pub returns-in-Reduction : goal.returns-in-Reduction
 returns-in-Reduction c =
     let a = c.args in
-    let masked = mask a.f a.k a.z.now a.p.now _ c.register-mask.ensures in
-    let read = source a.f a.k a.z.now a.p.now _ c.register-source.ensures in
+    let masked = mask a.f a.k.units a.z.now a.p.now _ c.register-mask.ensures in
+    let read = source a.f a.k.units a.z.now a.p.now _ c.register-source.ensures in
     (rw (c.width_of-w.ensures, masked, read) at c.reduction_low.ensures)
     ∙ ap (padded segment_bytes) (written_reduction _ _ _ c.requires.0.word _ c.requires.1 (c.requires.0.is ∙ ap Low c.in-Reduction.is))
 
 pub returns-in-Segment : goal.returns-in-Segment
 returns-in-Segment c =
     let a = c.args in
-    let masked = mask a.f a.k a.z.now a.p.now _ c.register-mask.ensures in
-    let read = source a.f a.k a.z.now a.p.now _ c.register-source.ensures in
+    let masked = mask a.f a.k.units a.z.now a.p.now _ c.register-mask.ensures in
+    let read = source a.f a.k.units a.z.now a.p.now _ c.register-source.ensures in
     (rw (c.width_of-w.ensures, masked, read) at c.segment_sums.ensures)
     ∙ written_segment _ _ _ c.requires.0.word (c.requires.0.is ∙ ap Low c.in-Segment.is)
 
 pub returns-in-Long : goal.returns-in-Long
 returns-in-Long c =
     let a = c.args in
-    let read = source a.f a.k a.z.now a.p.now _ c.register-source.ensures in
+    let read = source a.f a.k.units a.z.now a.p.now _ c.register-source.ensures in
     (rw (c.width_of-w.ensures, read) at c.long_low.ensures)
     ∙ ap (padded segment_bytes) (written_long _ _ _ c.requires.0.word _ c.requires.1 (c.requires.0.is ∙ ap Low c.in-Long.is))

@@ -1,8 +1,9 @@
 -- `carry_out` meets its contract: the entry that is appended is that of the register which the word writes, as it stood before the word.
 -- Assumes nothing.
-use Rattle.std.proofs.Common.{ℕ, ◌≡◌, List, sym, ◌∙◌, ap, ap₂}
+use Rattle.std.proofs.Common.{ℕ, ◌≡◌, List, sym, ◌∙◌, ap, ap₂, Bor}
 use Rattle.registers.specs.declared.Kind.{Kind}
-use Rattle.registers.specs.Register.{Register}
+use Rattle.registers.specs.declared.Kind.TheVariants.{Vector, Predicate}
+use Rattle.registers.specs.Register.{Register, file_of}
 use Rattle.registers.specs.State.{State, state, contents}
 use Rattle.rows.specs.Table.{family_of}
 use Rattle.words.specs.declared.Fields.{Fields}
@@ -24,10 +25,16 @@ carried : (k : ℕ) (kind : Kind) (f : Fields) (b : Buffers) (files : State) (en
     → buffers_of files entries ≡ carried_out k f b
 carried k kind f b files entries writes is e = ap₂ buffers_of is (e ∙ ap (λ (entry : Entry). pushed k entry b.journal) (entry_is k kind f b.files writes))
 
-pub append_target-requires : goal.append_target-requires
-append_target-requires c = c.requires.room
+-- the file of a kind, as it was found among those that are lent, has the bytes of that kind's file
+lent_file : (kind : Kind) (z p : Bor (List ℕ)) {file : Bor (List ℕ)} → file ≡ file_of kind z p → file.now ≡ file_of kind z.now p.now
+lent_file Vector z p found = ap (λ (b : Bor (List ℕ)). b.now) found
+lent_file Predicate z p found = ap (λ (b : Bor (List ℕ)). b.now) found
+
+pub append-requires : goal.append-requires
+append-requires c = rw (lent_file c.args.kind _ _ c.file.ensures) c.requires.room
 
 pub returns : goal.returns
 returns c =
     let lent = buffers_of (state c.args.z.now c.args.p.now) c.args.journal.now in
-    carried c.args.k c.args.kind c.args.f lent _ _ c.requires.writes c.execute.ensures c.append_target.ensures
+    carried c.args.k.units c.args.kind c.args.f lent _ _ c.requires.writes c.execute.ensures
+    (rw (lent_file c.args.kind _ _ c.file.ensures) at c.append.ensures)

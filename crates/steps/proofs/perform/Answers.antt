@@ -43,13 +43,13 @@ pub returns-then-not-may_name : goal.returns-then-not-may_name
 returns-then-not-may_name c =
     let a = c.args in
     let lent = buffers_of (state a.z.now a.p.now) a.journal.now in
-    unnamed a.k a.f lent (named a.f lent _ _ c.kind_written-kind.ensures c.entry_number.ensures c.may_name.ensures c.if-not-may_name.true)
+    unnamed a.k.units a.f lent (named a.f lent _ _ c.kind_written-kind.ensures c.entry_number.ensures c.may_name.ensures c.if-not-may_name.true)
 
 pub returns-then-is_full : goal.returns-then-is_full
 returns-then-is_full c =
     let a = c.args in
     let lent = buffers_of (state a.z.now a.p.now) a.journal.now in
-    full a.k a.f lent (named a.f lent _ _ c.kind_written-kind.ensures c.entry_number.ensures c.may_name.ensures c.if-not-may_name.false)
+    full a.k.units a.f lent (named a.f lent _ _ c.kind_written-kind.ensures c.entry_number.ensures c.may_name.ensures c.if-not-may_name.false)
     (sym c.is_full.ensures ∙ c.if-is_full.true)
 
 pub carry_out-requires : goal.carry_out-requires
@@ -59,12 +59,12 @@ carry_out-requires c =
     record {
       word = c.requires.word;
       writes = writes;
-      room = rw writes (can_append_target a.k a.f (buffers_of (state a.z.now a.p.now) a.journal.now) c.requires (sym c.is_full.ensures ∙ c.if-is_full.false));
+      room = rw writes (can_append_target a.k.units a.f (buffers_of (state a.z.now a.p.now) a.journal.now) c.requires (sym c.is_full.ensures ∙ c.if-is_full.false));
     }
 
 pub returns : goal.returns
 returns c =
     let a = c.args in
     let lent = buffers_of (state a.z.now a.p.now) a.journal.now in
-    carried_out_lem a.k a.f lent _ (named a.f lent _ _ c.kind_written-kind.ensures c.entry_number.ensures c.may_name.ensures c.if-not-may_name.false)
+    carried_out_lem a.k.units a.f lent _ (named a.f lent _ _ c.kind_written-kind.ensures c.entry_number.ensures c.may_name.ensures c.if-not-may_name.false)
     (sym c.is_full.ensures ∙ c.if-is_full.false) c.carry_out.ensures

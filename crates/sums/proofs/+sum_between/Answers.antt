@@ -7,6 +7,5 @@ use Rattle.sums.proofs.+sum_between.Goals as goal
 pub returns : goal.returns
 returns t c =
     let a = c.args in
-    c.wrapping_add_u64.ensures.value
-    ∙ ap₂ (λ (m n : ℕ). (m + n) % 2 ^ 64) c.sum_between-low.ensures c.sum_between-high.ensures
+    ap₂ (λ (m n : ℕ). (m + n) % 2 ^ 64) c.sum_between-low.ensures c.sum_between-high.ensures
     ∙ sym (sum_split 64 (active_element a.signed a.w a.predicate.now a.register.now) a.a (a.a + (a.b - a.a) / 2) a.b (omega arith) (omega arith))

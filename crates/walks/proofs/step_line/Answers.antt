@@ -3,6 +3,8 @@
 use Rattle.std.proofs.Common.{length, arith}
 use native.Mathlib.Nat.{le_refl}
 use borrow.Rule.Slice.PartMut.{mid_len}
+use Rattle.machine.specs.Refusal.{answered, answer_of}
+use Rattle.machine.proofs.Codes.{answer_value}
 use Rattle.registers.specs.State.{state}
 use Rattle.journal.specs.Left.{core_of}
 use Rattle.lines.proofs.Pieces.{put_from}
@@ -14,12 +16,14 @@ pub returns : goal.returns
 returns c =
     let a = c.args in
     let out = a.out.now in
-    let core = core_of a.k a.facts in
-    let step = c.step-number in
+    let core = core_of a.core.k a.core.facts in
+    let step = c.step-outcome in
     let left = state step.new.z step.new.p in
+    let written = c.write_line in
+    let put = turn_put core left a.program.now a.position c.answered-number.result _ _ (answer_of written.result)
+    (omega (arith, mid_len a.at (length out) out (le_refl _))) written.ensures in
     record {
       stepped = step.ensures;
-      shown = put_from a.at out (omega arith) (omega (arith, printed_most core left a.program.now a.position step.result))
-          (turn_put core left a.program.now a.position step.result _ _ c.write_line-written.result (omega (arith, mid_len a.at (length out) out (le_refl _)))
-          c.write_line-written.ensures);
+      shown = put_from a.at out (omega arith) (omega (arith, printed_most core left a.program.now a.position (answered step.result)))
+          (rw (c.answered-number.ensures, answer_value written.result, ← c.unwrap_or-length.ensures) at put);
     }

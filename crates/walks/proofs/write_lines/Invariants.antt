@@ -1,5 +1,5 @@
 -- The invariant: what is left of the journal has room in the output for its lines, and whatever writes the lines of the rest from here on has then
--- written all. The measure is how many words are left.
+-- written all.
 -- Assumes nothing.
 use Rattle.std.proofs.Common.{ℕ, List, ◌+◌, ◌-◌, ◌≤◌, length}
 use Rattle.machine.specs.Size.{most_words}
@@ -11,12 +11,8 @@ use Rattle.walks.proofs.write_lines.Given as goal
 
 abbrev pub invariant-loop-position : goal.invariant-loop-position
 invariant-loop-position l = record {
-  in_range : l.position ≤ most_words;
-  room : l.at + lines_most l.k l.journal ≤ length l.fn.out;
+  room : l.at + lines_most l.core.k l.journal ≤ length l.fn.out;
   rest : (m : List ℕ) (r : ℕ)
-      → Put l.out l.at (lines_from (most_words - l.position) (core_of l.k l.facts) l.program l.position (buffers_of (state l.z l.p) l.journal)) m r
-      → Put l.fn.out 0 (lines_from most_words (core_of l.k l.facts) l.program 0 (buffers_of (state l.fn.z l.fn.p) l.fn.journal)) m r;
+      → Put l.out l.at (lines_from (most_words - l.position) (core_of l.core.k l.core.facts) l.program l.position (buffers_of (state l.z l.p) l.journal)) m r
+      → Put l.fn.out 0 (lines_from most_words (core_of l.core.k l.core.facts) l.program 0 (buffers_of (state l.fn.z l.fn.p) l.fn.journal)) m r;
 }
-
-abbrev pub decreases-loop-position : goal.decreases-loop-position
-decreases-loop-position l = most_words - l.position

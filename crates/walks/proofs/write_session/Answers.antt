@@ -1,7 +1,7 @@
 -- `write_session` meets its contract: the parts lie in the bytes, and the walk over them is the session's.
 -- Assumes nothing.
 use Rattle.std.proofs.Common.{ℕ, List, arith}
-use Rattle.session.specs.declared.Session.{Session}
+use Rattle.session.specs.Body.{Session}
 use Rattle.session.specs.Body.{Parts}
 use Rattle.session.proofs.Reading.{session_parts}
 use Rattle.walks.specs.Output.{Given}
