@@ -11,7 +11,7 @@ use Rattle.machine.specs.Refusal.{First, in_order}
 use Rattle.std.specs.Prelude.{Result}
 use Rattle.machine.specs.declared.refusal.Refusal.{Refusal}
 use Rattle.machine.proofs.Codes.{told_tells}
-use Rattle.machine.proofs.Tests.{first_exactly}
+use Rattle.machine.proofs.Tests.{first_exactly, one_result}
 use Rattle.rows.specs.Table.{rows, form_of, family_of}
 use Rattle.words.specs.Field.{source_digits, governing_digits, second_digits, pattern_digits}
 use Rattle.cores.specs.Need.{need_of}
@@ -60,6 +60,10 @@ module _ (row : ℕ) (there : row < rows) where
   pub writes_told : (about_answer row).writes_predicate ≡ writes_predicate (family_of row)
   unfolding row_told
   writes_told = ap (λ (a : About). a.writes_predicate) row_is_told
+
+-- two records that are told of a row are the same
+pub about_answer_determined : (row : ℕ) (r s : About) → r ≡ about_answer row → s ≡ about_answer row → r ≡ s
+about_answer_determined row = one_result (about_answer row)
 
 -- two results of the call are the same
 pub row_determined : (row : ℕ) (a b : Result FoundRow Refusal) → about_in a ≡ about_answer row → about_in b ≡ about_answer row → a ≡ b

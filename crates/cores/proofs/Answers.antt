@@ -20,6 +20,10 @@ use Rattle.cores.specs.Need.{has, need_of}
 use Rattle.cores.specs.Core.{granted, on_core, decoded_on, Granted, Lacking}
 use Rattle.cores.proofs.Needs.{has_all, has_more}
 
+-- what the paper decodes a word to on a core is one thing
+pub decoded_on_determined : (facts : Facts) (word : ℕ) (r s : Decoded) → r ≡ decoded_on facts word → s ≡ decoded_on facts word → r ≡ s
+decoded_on_determined facts word = one_result (decoded_on facts word)
+
 -- two results that the contract of `decode` allows are the same
 pub decode_on_determined : (facts : Facts) (word : ℕ) (r s : Result Fields Refusal)
     → r ≡ decoding (decoded_on facts word) → s ≡ decoding (decoded_on facts word) → r ≡ s

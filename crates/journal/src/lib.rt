@@ -74,9 +74,9 @@ fn check_position(k: usize, journal: &[u8]) -> Result<Length, Refusal>
     ensures number { answered result ≡ position_refused k journal.now }
     ensures units { IfOk result (λ length. length.units ≡ k) }
 {
-    let k = Length::new(k)?;
-    entries::check_journal(k, journal)?;
-    Ok(k)
+    let length = Length::new(k)?;
+    entries::check_journal(length, journal)?;
+    Ok(length)
 }
 
 // A journal's position; or LENGTH, ROOM or JOURNAL.

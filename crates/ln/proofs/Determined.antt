@@ -14,9 +14,10 @@ use Rattle.assembles.specs.Assembled.{Assembled}
 use Rattle.assembles.proofs.Theorems.{assembled_determined}
 use Rattle.programs.specs.Word.{next_word}
 use Rattle.journal.specs.Left.{core_of, Buffers}
-use Rattle.journal.specs.Calls.{position_answer, entry_answer, freshened, Freshened}
-use Rattle.journal.proofs.Left.{left_determined}
-use Rattle.steps.specs.Calls.{stepped, backed, Stepped, Backed}
+use Rattle.journal.specs.Calls.{position_answer, entry_answer, Freshened}
+use Rattle.journal.proofs.Answers.{freshened_determined}
+use Rattle.steps.specs.Calls.{Stepped, Backed}
+use Rattle.steps.proofs.Answers.{stepped_determined, backed_determined}
 use Rattle.session.specs.Layout.{session_of}
 use Rattle.lines.specs.Line.{LineWritten, step_line}
 use Rattle.lines.proofs.Lines.{line_determined}
@@ -30,6 +31,7 @@ use Rattle.ln.specs.declared.LnSession.{LnSession}
 use Rattle.ln.specs.declared.LnWord.{LnWord}
 use Rattle.ln.specs.Outside.{library_version, answer_out, answer_in, decoded_out, session_out, word_out, entry_out, about_out}
 use Rattle.totals.specs.Written.{PanelWritten}
+use Rattle.totals.proofs.Written.{panel_numbers_determined}
 use Rattle.ln.specs.Posts.{WordDecoded, WordRead, SessionRead, RegisterPlaced, Subtotalled, PositionTold}
 use Rattle.ln.specs.Posts.{LaneRead, EntryRead, RowRead, VersionTold}
 
@@ -51,7 +53,7 @@ ln_read_session_determined bytes = one_result (session_out (session_of bytes))
 
 pub ln_fresh_determined : (k version : ℕ) (journal : List ℕ) (r q : ℕ) (a b : List ℕ) → Freshened k version journal r a → Freshened k version journal q b
     → (r ≡ q) × (a ≡ b)
-ln_fresh_determined k version journal r q a b x y = left_determined (freshened k version journal) r q a b x y
+ln_fresh_determined = freshened_determined
 
 pub ln_position_determined : (k : ℕ) (journal : List ℕ) (r q : LnAnswer) → PositionTold k journal r → PositionTold k journal q → r ≡ q
 ln_position_determined k journal = one_result (answer_out (position_answer k journal))
@@ -88,7 +90,7 @@ module _ (k : ℕ) (s : State) where
       → PanelWritten k s.z s.p source governing size out r a
       → PanelWritten k s.z s.p source governing size out q b
       → (r ≡ q) × (a ≡ b)
-  ln_panel_determined source governing size out r q a b x y = (one_result _ _ _ x.answered y.answered, one_result _ _ _ x.bytes y.bytes)
+  ln_panel_determined = panel_numbers_determined k s.z s.p
 
   pub ln_write_line_determined : (facts : ℕ) (program : List ℕ) (position number : ℕ) (out a b : List ℕ) (r q : LnAnswer)
       → LineWritten k (facts_of facts) s program position number out a (answer_in r)
@@ -102,8 +104,7 @@ pub ln_step_determined : (k facts : ℕ) (program : List ℕ) (b : Buffers) (r q
     → Stepped (core_of k (facts_of facts)) program b r after
     → Stepped (core_of k (facts_of facts)) program b q other
     → (r ≡ q) × (after ≡ other)
-ln_step_determined k facts program b r q after other x y =
-    left_determined (stepped (core_of k (facts_of facts)) program b) r q after other x.leaves y.leaves
+ln_step_determined k facts = stepped_determined (core_of k (facts_of facts))
 
 pub ln_back_determined : (k : ℕ) (b : Buffers) (r q : ℕ) (after other : Buffers) → Backed k b r after → Backed k b q other → (r ≡ q) × (after ≡ other)
-ln_back_determined k b r q after other x y = left_determined (backed k b) r q after other x.leaves y.leaves
+ln_back_determined = backed_determined

@@ -5,3 +5,4 @@ pub mod Checks
 pub mod Literals
 pub mod Sizes
 pub mod Codes
+pub mod Told

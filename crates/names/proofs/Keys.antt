@@ -59,6 +59,10 @@ name_five row h e = sym (row_good_lem row h).spaced ∙ rw (eq-eqb _ _ e)
 pub name_six : (row : ℕ) → row < rows → (get_or (key_of row) 5 0 ≡ 32 → ⊥) → name_of row ++ bytes " " ≡ key_of row ++ bytes " "
 name_six row h e = sym (row_good_lem row h).spaced ∙ rw (ne_eqb _ _ e)
 
+-- the place of the row that a text names is one number
+pub named_place_determined : (text : List ℕ) (r s : ℕ) → r ≡ row_named text → s ≡ row_named text → r ≡ s
+named_place_determined text r s p q = p ∙ sym q
+
 -- two results that the contract of `row_named` allows are the same
 pub row_named_determined : (text : List ℕ) (r s : Option ℕ) → r ≡ found rows (row_named text) → s ≡ found rows (row_named text) → r ≡ s
 row_named_determined text r s p q = p ∙ sym q

@@ -13,6 +13,10 @@ use Rattle.registers.specs.declared.files.Files.{Files}
 use Rattle.registers.proofs.Told.{AreLent, files_tell}
 use Rattle.pane.specs.Drawn.{register_refused, IsPart}
 
+-- the numbers of a register's refusal are the same
+pub register_refused_determined : (k : ℕ) (z p : List ℕ) (kind : Kind) (r a b : ℕ) → a ≡ register_refused k z p kind r → b ≡ register_refused k z p kind r → a ≡ b
+register_refused_determined k z p kind r = one_result (register_refused k z p kind r)
+
 pub register_refusal_determined : (k : ℕ) (z p : Bor (List ℕ)) (kind : Kind) (r : ℕ) (a b : Result Files Refusal)
     → answered a ≡ register_refused k z.now p.now kind r
     → IfOk a (AreLent k z p)

@@ -1,27 +1,21 @@
 -- What the check of both files tells: two outcomes that have the same number, and whose files are those that were lent, are the same.
 -- Assumes nothing.
-use Prim.Native.Nat.{ℕ, ◌≤◌}
+use Prim.Native.Nat.{ℕ}
 use mathlib.Core.Path.{◌≡◌, sym, ◌∙◌, ap}
 use mathlib.Core.HLevel.{is_prop→PathP}
 use mathlib.Core.List.{List}
-use native.Mathlib.Bridge.{le_prop}
 use denote.Ref.{Bor}
 use denote.Struct.Props.{props}
 use Rattle.std.specs.Prelude.{Result, Ok, Err, IfOk}
-use Rattle.machine.specs.Size.{most_length}
 use Rattle.machine.specs.Refusal.{answered}
-use Rattle.machine.specs.declared.Length.{Length}
 use Rattle.machine.specs.declared.refusal.Refusal.{Refusal}
 use Rattle.machine.proofs.Codes.{code_tells, code_not_done}
+use Rattle.machine.proofs.Told.{same_length}
 use Rattle.registers.specs.State.{Sized, state}
 use Rattle.registers.specs.declared.files.Files.{Files}
 
--- a length is its units, and files are their length and both files
-same_length : (a b : Length) → a.units ≡ b.units → a ≡ b
-same_length a b e = λ i. record { units = e i; within = is_prop→PathP (λ j. e j ≤ most_length) (λ j. le_prop) a.within b.within i }
-
+-- files are their length and both files
 same_files : (a b : Files) → a.k.units ≡ b.k.units → a.z ≡ b.z → a.p ≡ b.p → a ≡ b
-unfolding same_length
 same_files a b k z p =
     λ i. record {
       k = same_length a.k b.k k i;

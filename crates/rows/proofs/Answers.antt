@@ -23,5 +23,9 @@ family_of_determined i = one_result (family_of i)
 pub form_of_determined : (i : ℕ) (r s : Form) → r ≡ form_of i → s ≡ form_of i → r ≡ s
 form_of_determined i = one_result (form_of i)
 
+-- the place of the row that a word is of is one number
+pub row_place_determined : (word r s : ℕ) → r ≡ row_of word → s ≡ row_of word → r ≡ s
+row_place_determined word = one_result (row_of word)
+
 pub row_of_determined : (word : ℕ) (r s : Option ℕ) → r ≡ found rows (row_of word) → s ≡ found rows (row_of word) → r ≡ s
 row_of_determined word = one_result (found rows (row_of word))

@@ -21,6 +21,7 @@ use Rattle.machine.specs.Refusal.{DONE, SESSION, in_order}
 use Rattle.machine.proofs.Legal.{among_true, among_given}
 use Rattle.machine.specs.declared.refusal.Refusal.{Refusal}
 use Rattle.machine.proofs.Codes.{told_tells}
+use Rattle.machine.proofs.Tests.{one_result}
 use Rattle.session.specs.declared.FoundSession.{FoundSession}
 use Rattle.session.specs.Body.{Session}
 use Rattle.session.specs.Body.{session_in, body_end, is_body, body_placed, no_session, body_of, IsBody, Parts}
@@ -162,6 +163,10 @@ second_has_byte bytes s second =
     ∙ ap facts_of (ap (λ (v : ℕ). cond (tells_facts v) (get_or bytes facts_at 0) all_byte) second))
     ∙ byte_of_facts (get_or bytes facts_at 0)
     ∙ mod-eq_of_lt (omega (arith, s.told second))
+
+-- what the paper reads of a session's bytes is one thing
+pub session_of_determined : (bytes : List ℕ) (r r' : Session) → r ≡ session_of bytes → r' ≡ session_of bytes → r ≡ r'
+session_of_determined bytes = one_result (session_of bytes)
 
 -- two results that the contract of `read_session` allows are the same
 pub read_session_determined : (bytes : List ℕ) (r r' : Result FoundSession Refusal) → session_in r ≡ session_of bytes → session_in r' ≡ session_of bytes → r ≡ r'

@@ -30,13 +30,22 @@ pub back_exactly : (k : ℕ) (b : Buffers) (n : ℕ) → (backed k b).number ≡
 unfolding backed
 back_exactly k b n = first_exactly (back_tests k b) n
 
+-- the numbers that a step is answered with, and what it leaves, are the same, whatever numbers they are
+pub stepped_determined : (c : Core) (program : List ℕ) (b : Buffers) (r q : ℕ) (after other : Buffers) → Stepped c program b r after → Stepped c program b q other
+    → (r ≡ q) × (after ≡ other)
+stepped_determined c program b r q after other x y = left_determined (stepped c program b) r q after other x.leaves y.leaves
+
 -- two results of a call are the same
 pub step_determined : (c : Core) (program : List ℕ) (b : Buffers) (r q : Result Unit Refusal) (after other : Buffers)
     → Stepped c program b (answered r) after → Stepped c program b (answered q) other → (r ≡ q) × (after ≡ other)
 step_determined c program b r q after other x y =
-    let same = left_determined (stepped c program b) (answered r) (answered q) after other x.leaves y.leaves in (answered_tells r q same.0, same.1)
+    let same = stepped_determined c program b (answered r) (answered q) after other x y in (answered_tells r q same.0, same.1)
+
+-- the numbers that a step back is answered with, and what it leaves, are the same, whatever numbers they are
+pub backed_determined : (k : ℕ) (b : Buffers) (r q : ℕ) (after other : Buffers) → Backed k b r after → Backed k b q other → (r ≡ q) × (after ≡ other)
+backed_determined k b r q after other x y = left_determined (backed k b) r q after other x.leaves y.leaves
 
 pub back_determined : (k : ℕ) (b : Buffers) (r q : Result Unit Refusal) (after other : Buffers)
     → Backed k b (answered r) after → Backed k b (answered q) other → (r ≡ q) × (after ≡ other)
 back_determined k b r q after other x y =
-    let same = left_determined (backed k b) (answered r) (answered q) after other x.leaves y.leaves in (answered_tells r q same.0, same.1)
+    let same = backed_determined k b (answered r) (answered q) after other x y in (answered_tells r q same.0, same.1)

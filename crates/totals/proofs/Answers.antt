@@ -15,7 +15,7 @@ use Rattle.registers.proofs.Told.{AreLent, files_tell}
 use denote.Ref.{Bor}
 use Rattle.std.specs.Prelude.{Result, IfOk}
 use Rattle.machine.specs.declared.refusal.Refusal.{Refusal}
-use Rattle.machine.specs.Refusal.{DONE, First, in_order, answer, answered, answer_of}
+use Rattle.machine.specs.Refusal.{DONE, First, in_order, Answer, answer, answered, answer_of}
 use Rattle.machine.proofs.Codes.{answer_tells}
 use Rattle.machine.proofs.Tests.{first_exactly, first_after, one_result}
 use Rattle.lanes.specs.Lane.{width_of}
@@ -54,10 +54,21 @@ module _ (k : ℕ) (z p : List ℕ) (source predicate size : ℕ) where
   pub subtotal_in_order : (a b : ℕ) → in_order (subtotal_tests k z p source predicate size a b) ≡ true
   subtotal_in_order a b = refl
 
+  -- the numbers of a panel's refusal are the same
+  pub panel_refused_determined : {r s : ℕ} → r ≡ panel_refused k z p source predicate size → s ≡ panel_refused k z p source predicate size → r ≡ s
+  panel_refused_determined = one_result _ _ _
+
   pub panel_determined : {r s : List (List ℕ)} → r ≡ panel_answer k z p source predicate size → s ≡ panel_answer k z p source predicate size → r ≡ s
   panel_determined = one_result _ _ _
 
   module _ (signed : Bool) where
+    -- what the paper tells of a subtotal is one record
+    pub subtotal_answer_determined : (a b : ℕ) {r s : Answer}
+        → r ≡ subtotal_answer k z p source predicate size signed a b
+        → s ≡ subtotal_answer k z p source predicate size signed a b
+        → r ≡ s
+    subtotal_answer_determined a b = one_result _ _ _
+
     pub subtotal_determined : (a b : ℕ) (r s : Result ℕ Refusal)
         → answer_of r ≡ subtotal_answer k z p source predicate size signed a b
         → answer_of s ≡ subtotal_answer k z p source predicate size signed a b

@@ -12,14 +12,14 @@ use Rattle.std.specs.Prelude.{Result}
 use Rattle.machine.specs.declared.refusal.Refusal.{Refusal}
 use Rattle.machine.specs.Refusal.{DONE, First, in_order}
 use Rattle.machine.proofs.Codes.{told_tells}
-use Rattle.machine.proofs.Tests.{first_exactly}
+use Rattle.machine.proofs.Tests.{first_exactly, one_result}
 use Rattle.registers.specs.Register.{vector_of, predicate_of}
 use Rattle.lanes.specs.Lane.{width_of, active}
 use Rattle.lanes.specs.Integer.{residue}
 use Rattle.lanes.specs.Sum.{each, element, counted, active_element, wrapped_sum}
 use Rattle.lanes.proofs.Sums.{wrapped_sum_lem, same_each, map_each}
 use Rattle.totals.specs.Calls.{lanes_at, subtotal_refused, subtotal_answer}
-use Rattle.totals.specs.Lane.{lane_tests, lane_refused, lane_told, lane_in, lane_answer, lane_adds}
+use Rattle.totals.specs.Lane.{Lane, lane_tests, lane_refused, lane_told, lane_in, lane_answer, lane_adds}
 use Rattle.totals.specs.declared.FoundLane.{FoundLane}
 use Rattle.totals.proofs.Accepted.{Accepted, subtotal_accepted}
 use Rattle.totals.proofs.OneLane.{lane_done}
@@ -39,6 +39,10 @@ module _ (k : ℕ) (z p : List ℕ) (source predicate size : ℕ) where
   lane_in_order e = refl
 
   module _ (signed : Bool) where
+    -- what the paper tells of a lane is one record
+    pub lane_answer_determined : (e : ℕ) {r s : Lane} → r ≡ lane_answer k z p source predicate size signed e → s ≡ lane_answer k z p source predicate size signed e → r ≡ s
+    lane_answer_determined e = one_result _ _ _
+
     pub lane_determined : (e : ℕ) (a b : Result FoundLane Refusal)
         → lane_in a ≡ lane_answer k z p source predicate size signed e → lane_in b ≡ lane_answer k z p source predicate size signed e → a ≡ b
     lane_determined e a b s t =

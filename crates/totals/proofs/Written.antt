@@ -24,10 +24,16 @@ pub panel_written_exactly : (k : ℕ) (z p : List ℕ) (source predicate size n 
     → panel_written_refused k z p source predicate size n ≡ suc m ↔ First (panel_written_tests k z p source predicate size n) (suc m)
 panel_written_exactly k z p source predicate size n m = first_exactly (panel_written_tests k z p source predicate size n) m
 
+-- the numbers that a panel is answered with, and the output, are the same, whatever numbers they are
+pub panel_numbers_determined : (k : ℕ) (z p : List ℕ) (source predicate size : ℕ) (out : List ℕ) (r q : ℕ) (a b : List ℕ)
+    → PanelWritten k z p source predicate size out r a → PanelWritten k z p source predicate size out q b → (r ≡ q) × (a ≡ b)
+panel_numbers_determined k z p source predicate size out r q a b x y = (x.answered ∙ sym y.answered, x.bytes ∙ sym y.bytes)
+
 -- two results that the contract of a panel that is written allows are the same
 pub panel_written_determined : (k : ℕ) (z p : List ℕ) (source predicate size : ℕ) (out : List ℕ) (r q : Result Unit Refusal) (a b : List ℕ)
     → PanelWritten k z p source predicate size out (answered r) a → PanelWritten k z p source predicate size out (answered q) b → (r ≡ q) × (a ≡ b)
-panel_written_determined k z p source predicate size out r q a b x y = (answered_tells r q (x.answered ∙ sym y.answered), x.bytes ∙ sym y.bytes)
+panel_written_determined k z p source predicate size out r q a b x y =
+    let same = panel_numbers_determined k z p source predicate size out (answered r) (answered q) a b x y in (answered_tells r q same.0, same.1)
 
 module _ (k : ℕ) (z p : List ℕ) (source predicate size : ℕ) (out : List ℕ) where
   abbrev files : List Test

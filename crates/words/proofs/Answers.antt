@@ -22,6 +22,14 @@ use Rattle.rows.proofs.Rows.{row_matches, row_no_later}
 use Rattle.rows.proofs.OneRow.{row_found}
 use Rattle.words.proofs.Decoding.{decoded_unknown, decoded_judged}
 
+-- what the paper decodes a word to is one thing
+pub decoded_determined : (word : ℕ) (r s : Decoded) → r ≡ decoded word → s ≡ decoded word → r ≡ s
+decoded_determined word = one_result (decoded word)
+
+-- the number of what was decoded is one number
+pub number_of_determined : (d : Decoded) (r s : ℕ) → r ≡ number_of d → s ≡ number_of d → r ≡ s
+number_of_determined d = one_result (number_of d)
+
 -- two results that the contract of a public call allows are the same
 pub decode_determined : (word : ℕ) (r s : Result Fields Refusal) → r ≡ decoding (decoded word) → s ≡ decoding (decoded word) → r ≡ s
 decode_determined word = one_result (decoding (decoded word))

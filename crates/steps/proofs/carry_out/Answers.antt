@@ -30,6 +30,8 @@ lent_file : (kind : Kind) (z p : Bor (List ℕ)) {file : Bor (List ℕ)} → fil
 lent_file Vector z p found = ap (λ (b : Bor (List ℕ)). b.now) found
 lent_file Predicate z p found = ap (λ (b : Bor (List ℕ)). b.now) found
 
+-- What is appended is the entry of the register's own file: the file of the kind, as it was found, has the bytes of that kind's file.
+-- With it all is left as the word leaves it, and its entry pushed.
 pub append-requires : goal.append-requires
 append-requires c = rw (lent_file c.args.kind _ _ c.file.ensures) c.requires.room
 
